@@ -1,0 +1,4 @@
+pub mod Crc
+pub mod Chunks
+pub mod LogRows
+pub mod StoredChunks

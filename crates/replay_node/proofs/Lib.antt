@@ -1,0 +1,16 @@
+pub mod Closing
+pub mod Commits
+pub mod Confirming
+pub mod Cutting
+pub mod Decimals
+pub mod Framing
+pub mod Goodness
+pub mod Headline
+pub mod HexText
+pub mod NodeSteps
+pub mod Pieces
+pub mod Playing
+pub mod Readings
+pub mod Runs
+pub mod Scripts
+pub mod Splits

@@ -1,0 +1,14 @@
+pub mod Words
+pub mod Script
+pub mod Commands
+pub mod Messages
+pub mod Outputs
+pub mod NodeState
+pub mod NodeFields
+pub mod Replays
+pub mod Plays
+pub mod Machine
+pub mod MachineSteps
+pub mod Transcripts
+pub mod Shown
+pub mod Complete
