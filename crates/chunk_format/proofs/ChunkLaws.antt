@@ -17,10 +17,10 @@ unfolding i64_bytes
 i64_length n = refl
 
 -- the part of this length after this front
-part_at : (front part back : List ℕ) (at size : ℕ) → length front ≡ at → length part ≡ size → take size (drop at (front ++ (part ++ back))) ≡ part
+pub part_at : (front part back : List ℕ) (at size : ℕ) → length front ≡ at → length part ≡ size → take size (drop at (front ++ (part ++ back))) ≡ part
 part_at front part back at size len size_is = ap (take size) (drop_at front (part ++ back) at len) ∙ take_at part back size size_is
 
-head_length : (h : Header) → length (head_bytes h) ≡ 16
+pub head_length : (h : Header) → length (head_bytes h) ≡ 16
 head_length h =
     let a = length-append (kind_bytes h.kind) (u16_bytes h.entries ++ (u32_bytes h.records ++ i64_bytes h.stamp)) in
     let b = length-append (u8_bytes 0x50) (u8_bytes (kind_code h.kind)) in
@@ -81,7 +81,12 @@ kind_part h rest =
     ap (λ (x : List ℕ). take 1 (drop 1 x)) regroup
     ∙ part_at (u8_bytes 0x50) (u8_bytes (kind_code h.kind)) (after ++ (tail ++ rest)) 1 1 (u8_length 0x50) (u8_length (kind_code h.kind))
 
-kind_small : (k : ChunkKind) → kind_code k < 2 ^ 8
+pub kind_low : (k : ChunkKind) → kind_code k < 3
+kind_low User = omega arith
+kind_low Delta = omega arith
+kind_low Snapshot = omega arith
+
+pub kind_small : (k : ChunkKind) → kind_code k < 2 ^ 8
 kind_small User = omega arith
 kind_small Delta = omega arith
 kind_small Snapshot = omega arith

@@ -1,4 +1,10 @@
 pub mod Crc
+pub mod Items
+pub mod Tags
 pub mod Chunks
 pub mod LogRows
+pub mod Parts
+pub mod Named
 pub mod StoredChunks
+pub mod Faults
+pub mod Reads

@@ -6,12 +6,8 @@ use Rattle.chunk_format.specs.declared.entry.Entry.{Entry}
 use Rattle.chunk_format.specs.declared.chunk.ChunkKind.{ChunkKind}
 use Rattle.chunk_format.specs.declared.chunk.ChunkKind.TheVariants.{User, Delta, Snapshot}
 use Rattle.chunk_format.specs.declared.chunk.Chunk.{Chunk}
+pub use Rattle.chunk_format.specs.Tags.{Tag}
 use Rattle.chunk_format.specs.Chunks.{entry_records}
-
--- the name of a publisher, and the id that it gave an entry
-pub record Tag : Type 0 where
-  pub name : List ℕ
-  pub id : ℕ
 
 -- an entry, the first offset that it takes, and its tag if it has one
 pub record LogRow : Type 0 where

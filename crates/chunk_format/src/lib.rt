@@ -1,16 +1,29 @@
 //! Chunks of a log: their entries, their bytes and their checksum.
 #![tactic(auto)]
 
+mod check;
 mod chunk;
 mod crc;
+mod decode;
 mod encode;
 mod entry;
+mod fault;
+mod fields;
+mod lists;
+mod read;
+mod split;
 mod stored;
+mod tracking;
 mod valid;
 
+pub use check::check_chunk;
 pub use chunk::{Chunk, ChunkKind, Header};
 pub use crc::crc32;
+pub use decode::{ChunkError, ReadChunk, decode_chunk};
 pub use encode::encode_chunk;
 pub use entry::{Entry, put_entry};
+pub use fault::ChunkFault;
+pub use split::{EntryParts, split_entry};
 pub use stored::Stored;
+pub use tracking::{DeltaParts, SnapshotParts, TagParts, split_delta, split_snapshot, split_tag};
 pub use valid::is_chunk;

@@ -28,17 +28,29 @@ impl Model for Stored {
 }
 
 impl Stored {
-    /// Keeps a chunk for which `is_chunk` holds. It fails for want of memory alone.
+    /// Keeps a chunk for which `is_chunk` holds. No other chunk has its bytes.
+    /// It fails for want of memory alone.
     pub fn make(alloc: Global, chunk: &Chunk) -> Result<Stored, AllocError>
         requires { IsChunk chunk.now }
         ensures header { IfOk result (λ s. s.header ≡ header_of chunk.now) }
         ensures bytes { IfOk result (λ s. ChunkSpells chunk.now s.bytes) }
+        ensures alone { IfOk result (λ s. (other : Chunk) → ChunkSpells other s.bytes → other ≡ chunk.now) }
     {
         let encoded = encode_whole(alloc, chunk)?;
         let bytes = Bytes::copy_from_slice(alloc, encoded.bytes.as_slice())?;
         Ok(Stored {
             header: encoded.header,
             bytes,
+        })
+    }
+
+    /// The same chunk, with one owner more of its bytes. It fails for want of memory alone.
+    pub fn share(&self) -> Result<Stored, AllocError>
+        ensures { IfOk result (λ s. s ≡ self.now) }
+    {
+        Ok(Stored {
+            header: self.header,
+            bytes: self.bytes.clone()?,
         })
     }
 

@@ -1,28 +1,41 @@
 //! Which chunks have a spelling.
 
-ghost use Rattle.std.specs.Prelude.{◌≡◌, ◌<◌, ◌≤◌, ◌^◌, ◌↔◌, ◌∷◌, [], length, IsTrue};
+ghost use Rattle.std.specs.Prelude.{◌≡◌, ◌<◌, ◌≤◌, ◌^◌, ◌↔◌, ◌⊎◌, List, ℕ, [], length, IsTrue, MatchOption};
 ghost use Rattle.std.specs.List.{All};
-ghost use Rattle.chunk_format.specs.Chunks.{IsEntry, entry_bytes, entry_records, entries_bytes, records_of, HoldsByKind, IsChunk};
+ghost use Rattle.chunk_format.specs.Chunks.{IsEntry, entry_bytes, entry_records, entries_bytes, records_of, HasRecords, IsOneSimple, HoldsByKind, IsChunk};
+ghost use Rattle.chunk_format.specs.Tags.{Tag, SpellsTags, DeltaEntry, SpellsDelta, SnapshotEntry, SpellsSnapshot};
 
 use crate::chunk::{Chunk, ChunkKind};
 use crate::entry::Entry;
+use crate::lists::{wrong_delta, wrong_snapshot, wrong_tag};
 
 /// The greatest length of a payload, in bytes.
-const MAX_PAYLOAD: u64 = 4_294_967_040;
+pub const MAX_PAYLOAD: u64 = 4_294_967_040;
 
 fn is_entry(entry: &Entry) -> bool
     ensures { IsTrue result ↔ IsEntry entry.now }
 {
     match entry {
         Entry::Simple(body) => body.len() < 0x8000_0000,
+        Entry::Batch {
+            compression,
+            spare,
+            records,
+            uncompressed,
+            body,
+        } => {
+            let _in_range = (*records, *uncompressed);
+            *compression < 8 && *spare < 16 && body.len() < 0x1_0000_0000
+        }
     }
 }
 
+/// Whether each entry may stand in a chunk.
 fn are_entries(entries: &[Entry]) -> bool
-    ensures { IsTrue result ↔ All IsEntry entries.now }
+    ensures { IsTrue result ↔ (All IsEntry entries.now × All HasRecords entries.now) }
 {
     for entry in entries {
-        if !is_entry(entry) {
+        if !is_entry(entry) || records(entry) == 0 {
             return false;
         }
     }
@@ -30,7 +43,7 @@ fn are_entries(entries: &[Entry]) -> bool
 }
 
 /// How many bytes an entry has.
-#[tactic(auto, using(crate::proofs::Sizes::simple_length))]
+#[tactic(auto, using(crate::proofs::Sizes::simple_length, crate::proofs::Sizes::batch_length))]
 fn entry_len(entry: &Entry) -> u64
     requires { IsEntry entry.now }
     ensures len { result ≡ length (entry_bytes entry.now) }
@@ -38,6 +51,13 @@ fn entry_len(entry: &Entry) -> u64
 {
     match entry {
         Entry::Simple(body) => 4 + body.len() as u64,
+        Entry::Batch {
+            compression: _,
+            spare: _,
+            records: _,
+            uncompressed: _,
+            body,
+        } => 11 + body.len() as u64,
     }
 }
 
@@ -60,6 +80,13 @@ fn records(entry: &Entry) -> u16
 {
     match entry {
         Entry::Simple(_) => 1,
+        Entry::Batch {
+            compression: _,
+            spare: _,
+            records,
+            uncompressed: _,
+            body: _,
+        } => *records,
     }
 }
 
@@ -75,25 +102,51 @@ pub fn count_records(entries: &[Entry]) -> u32
     total
 }
 
+/// Whether a trailer is empty, or has a tag for each of so many entries, all of one name.
+fn holds_tags(trailer: &[u8], entries: usize) -> bool
+    ensures { IsTrue result ↔ (trailer.now ≡ [] ⊎ ((tags : List Tag) × SpellsTags entries trailer.now tags)) }
+{
+    trailer.is_empty() || wrong_tag(trailer, entries).is_none()
+}
+
+/// The body of the entry, where there is one and it is simple.
+pub fn one_simple(entries: &[Entry]) -> Option<&[u8]>
+    ensures { MatchOption result ((body : List ℕ) → IsOneSimple entries.now body → ⊥) (λ body. IsOneSimple entries.now body.now) }
+{
+    match entries {
+        [Entry::Simple(body)] => Some(body.as_slice()),
+        _ => None,
+    }
+}
+
+fn holds_delta(entries: &[Entry]) -> bool
+    ensures { IsTrue result ↔ ((body : List ℕ) × (delta : DeltaEntry) × IsOneSimple entries.now body × SpellsDelta body delta) }
+{
+    match one_simple(entries) {
+        Some(body) => wrong_delta(body).is_none(),
+        None => false,
+    }
+}
+
+fn holds_snapshot(entries: &[Entry]) -> bool
+    ensures { IsTrue result ↔ ((body : List ℕ) × (snapshot : List SnapshotEntry) × IsOneSimple entries.now body × SpellsSnapshot body snapshot) }
+{
+    match one_simple(entries) {
+        Some(body) => wrong_snapshot(body).is_none(),
+        None => false,
+    }
+}
+
 /// Whether a chunk holds what its kind holds.
 fn holds_by_kind(chunk: &Chunk) -> bool
     ensures { IsTrue result ↔ HoldsByKind chunk.now.kind chunk.now.entries chunk.now.trailer }
 {
-    let no_trailer = chunk.trailer.as_slice().is_empty();
+    let entries = chunk.entries.as_slice();
+    let trailer = chunk.trailer.as_slice();
     match chunk.kind {
-        ChunkKind::User => no_trailer,
-        ChunkKind::Delta => false,
-        ChunkKind::Snapshot => no_trailer && is_one_empty(chunk.entries.as_slice()),
-    }
-}
-
-/// Whether there is one entry, and it is empty.
-fn is_one_empty(entries: &[Entry]) -> bool
-    ensures { IsTrue result ↔ (entries.now ≡ Entry.Simple [] ∷ []) }
-{
-    match entries {
-        [Entry::Simple(body)] => body.as_slice().is_empty(),
-        _ => false,
+        ChunkKind::User => holds_tags(trailer, entries.len()),
+        ChunkKind::Delta => trailer.is_empty() && holds_delta(entries),
+        ChunkKind::Snapshot => trailer.is_empty() && holds_snapshot(entries),
     }
 }
 

@@ -1,29 +1,36 @@
 -- The chunks of messages.
-use Rattle.std.proofs.Common.{◌≡◌, ℕ, ◌+◌, ◌^◌, ◌<◌, ◌≤◌, List, [], ◌∷◌, ◌++◌, length, get_or, take, map, All, pos, rules, refl, sym, ap, subst, ◌∙◌, length-append, arith}
+use Rattle.std.proofs.Common.{◌≡◌, ℕ, ◌+◌, ◌^◌, ◌<◌, ◌≤◌, List, [], ◌∷◌, ◌++◌, length, get_or, take, map, All, pos, rules, refl, sym, ap, subst, ◌∙◌, length-append, arith, inl}
 use Rattle.std.specs.Int.{w64}
 use Rattle.std.specs.Int.RustNames.{FitsSigned}
 use Rattle.std.proofs.lemmas.List.{append-nil, take_more, length-take, map-append}
-use Rattle.std.proofs.lemmas.List.Elements.{All-from_recursion, recursion_from_All}
+use Rattle.std.proofs.lemmas.List.Elements.{All-nil, All-from_recursion, recursion_from_All}
 use Rattle.std.specs.List.{AllByRecursion}
 use Rattle.frame_wire.specs.Fields.{u32_bytes}
 use Rattle.frame_wire.proofs.FieldLaws.{u32_length}
 use Rattle.chunk_format.specs.declared.entry.Entry.{Entry}
-use Rattle.chunk_format.specs.declared.entry.Entry.TheVariants.{Simple}
+use Rattle.chunk_format.specs.declared.entry.Entry.TheVariants.{Simple, Batch}
 use Rattle.chunk_format.specs.declared.chunk.Chunk.{Chunk}
-use Rattle.chunk_format.specs.Chunks.{IsChunk, IsEntry, entry_bytes, entries_bytes, records_of, end_of_chunk}
+use Rattle.chunk_format.specs.Tags.{IsSnapshot}
+use Rattle.chunk_format.specs.Chunks.{IsChunk, IsEntry, HasRecords, entry_bytes, entries_bytes, records_of, end_of_chunk}
 use Rattle.replay_node.specs.declared.command.Tagged.{Tagged}
 use Rattle.replay_node.specs.Commands.{IsSimple, IsMessage}
 use Rattle.replay_node.specs.NodeState.{opening, message_chunk, chunks_from, commit_of}
 use Rattle.replay_node.specs.Outputs.{output_bytes, output_lines}
 
-entry_length : (entry : Entry) → IsEntry entry → length (entry_bytes entry) < 2 ^ 31 + 4
-entry_length (Simple bytes) fits = omega (arith, length-append (u32_bytes (length bytes)) bytes, u32_length (length bytes))
+entry_length : (entry : Entry) → IsEntry entry → IsSimple entry → length (entry_bytes entry) < 2 ^ 31 + 4
+entry_length (Simple bytes) fits simple = omega (arith, length-append (u32_bytes (length bytes)) bytes, u32_length (length bytes))
+entry_length (Batch compression spare records uncompressed body) fits simple = absurd simple
 
 one_length : (entry : Entry) → length (entries_bytes (entry ∷ [])) ≡ length (entry_bytes entry)
 one_length entry = ap length (append-nil (entry_bytes entry))
 
 records_one : (entry : Entry) → IsSimple entry → records_of (entry ∷ []) ≡ 1
 records_one (Simple bytes) simple = refl
+records_one (Batch compression spare records uncompressed body) simple = absurd simple
+
+has_record : (entry : Entry) → IsSimple entry → HasRecords entry
+has_record (Simple bytes) simple = omega arith
+has_record (Batch compression spare records uncompressed body) simple = absurd simple
 
 pub message_end : (first : ℕ) (entry : Entry) → IsSimple entry → end_of_chunk (message_chunk first entry) ≡ first + 1
 message_end first entry simple = ap (λ (n : ℕ). first + n) (records_one entry simple)
@@ -38,9 +45,10 @@ message_is_chunk first m fits room = record {
   some = omega arith;
   few = omega arith;
   each = All-from_recursion IsEntry (m.entry ∷ []) (fits.0.1, tt);
-  payload = omega (arith, one_length m.entry, entry_length m.entry fits.0.1);
+  recorded = All-from_recursion HasRecords (m.entry ∷ []) (has_record m.entry fits.1, tt);
+  payload = omega (arith, one_length m.entry, entry_length m.entry fits.0.1 fits.1);
   last = omega (arith, message_end first m.entry fits.1);
-  content = refl;
+  content = inl refl;
 }
 
 pub opening_is_chunk : IsChunk opening
@@ -50,9 +58,10 @@ opening_is_chunk = record {
   some = omega arith;
   few = omega arith;
   each = All-from_recursion IsEntry (Simple [] ∷ []) (omega arith, tt);
-  payload = omega (arith, one_length (Simple []), entry_length (Simple []) (omega arith));
+  recorded = All-from_recursion HasRecords (Simple [] ∷ []) (omega arith, tt);
+  payload = omega (arith, one_length (Simple []), entry_length (Simple []) (omega arith) tt);
   last = omega arith;
-  content = (refl, refl);
+  content = (refl, ([], [], refl, (All-nil IsSnapshot, refl)));
 }
 
 pub chunks_push : (first : ℕ) (messages : List Tagged) (m : Tagged) → chunks_from first (messages ++ m ∷ []) ≡ chunks_from first messages ++ message_chunk (first + length messages) m.entry ∷ []

@@ -7,7 +7,7 @@ use Rattle.frame_wire.specs.Fields.{u8_bytes, u16_bytes, u32_bytes, u64_bytes}
 use Rattle.frame_wire.specs.Frames.{frame, Frames, IsBody, stream_of}
 use Rattle.frame_wire.proofs.FieldLaws.{same_front, u8_length, u16_length, u32_length, u64_length, u32_same, u64_same}
 use Rattle.chunk_format.specs.declared.entry.Entry.{Entry}
-use Rattle.chunk_format.specs.declared.entry.Entry.TheVariants.{Simple}
+use Rattle.chunk_format.specs.declared.entry.Entry.TheVariants.{Simple, Batch}
 use Rattle.replay_node.specs.declared.command.Tagged.{Tagged}
 use Rattle.replay_node.specs.Commands.{frame_max, tagged_bytes, publish_bytes, confirm_bytes, list_bytes, IsTagged, IsSimple, SpellsPublish, PublishesOne}
 use Rattle.replay_node.specs.Messages.{publish_head, confirm_head, message_fields, SpellsFields}
@@ -129,6 +129,7 @@ body_same bytes body other framed also =
 parts_of : (body : List ℕ) (id : ℕ) (entry : Entry) → body ≡ publish_bytes 0 (record { id = id; entry = entry } ∷ []) → IsTagged (record { id = id; entry = entry }) → IsSimple entry
     → (at : ℕ) × (content : List ℕ) × (body ≡ publish_head ++ message_fields at content) × (at < 2 ^ 64) × (length content < 2 ^ 31)
 parts_of body id (Simple content) e fits simple = (id, content, e ∙ body_parts id content, fits.0, fits.1)
+parts_of body id (Batch compression spare records uncompressed content) e fits simple = absurd simple
 
 publish_parts : (body other : List ℕ) (tagged : Tagged) → other ≡ body → SpellsPublish other 0 (tagged ∷ []) → IsSimple tagged.entry
     → (at : ℕ) × (content : List ℕ) × (body ≡ publish_head ++ message_fields at content) × (at < 2 ^ 64) × (length content < 2 ^ 31)

@@ -14,3 +14,4 @@ pub mod Readings
 pub mod Runs
 pub mod Scripts
 pub mod Splits
+pub mod MachineExamples

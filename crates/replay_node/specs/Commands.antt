@@ -4,7 +4,7 @@ use Rattle.std.specs.List.{flat_map}
 use Rattle.frame_wire.specs.Fields.{u8_bytes, u16_bytes, u32_bytes, u64_bytes}
 use Rattle.frame_wire.specs.Frames.{Frames}
 use Rattle.chunk_format.specs.declared.entry.Entry.{Entry}
-use Rattle.chunk_format.specs.declared.entry.Entry.TheVariants.{Simple}
+use Rattle.chunk_format.specs.declared.entry.Entry.TheVariants.{Simple, Batch}
 use Rattle.chunk_format.specs.Chunks.{entry_bytes, IsEntry}
 use Rattle.replay_node.specs.declared.command.Tagged.{Tagged}
 
@@ -47,6 +47,7 @@ frame_max = 1048576
 
 abbrev pub IsSimple : Entry → Type 0
 IsSimple (Simple bytes) = Unit {0}
+IsSimple (Batch compression spare records uncompressed body) = ⊥
 
 -- an id and a simple entry
 abbrev pub IsMessage : Tagged → Type 0

@@ -12,3 +12,4 @@ pub mod MachineSteps
 pub mod Transcripts
 pub mod Shown
 pub mod Complete
+pub mod Examples

@@ -1,9 +1,9 @@
 -- The list machine: what a stream server must be, with no queue, file, member or buffer in it.
-use Rattle.std.specs.Prelude.{◌≡◌, ℕ, ◌+◌, ◌≤◌, ◌==◌, if◌then◌else◌, Bool, List, [], ◌∷◌, ◌++◌, map, count_by, Option, Some, None}
+use Rattle.std.specs.Prelude.{◌≡◌, ℕ, ◌+◌, ◌≤◌, ◌==◌, if◌then◌else◌, Bool, false, ◌&&◌, List, [], ◌∷◌, ◌++◌, map, count_by, Option, Some, None}
 use Rattle.std.specs.List.{flat_map}
 use Rattle.std.specs.Cmp.Lexicographic.{pointwise}
 use Rattle.chunk_format.specs.declared.entry.Entry.{Entry}
-use Rattle.chunk_format.specs.declared.entry.Entry.TheVariants.{Simple}
+use Rattle.chunk_format.specs.declared.entry.Entry.TheVariants.{Simple, Batch}
 use Rattle.chunk_format.specs.declared.chunk.Chunk.{Chunk}
 use Rattle.chunk_format.specs.LogRows.{LogRow, Rows, Tag}
 use Rattle.replay_node.specs.declared.command.Tagged.{Tagged}
@@ -47,8 +47,15 @@ abbrev pub put : {X : Type 0} → ℕ → X → List (ℕ × X) → List (ℕ ×
 put number value [] = []
 put number value (e ∷ es) = if number == e.0 then (number, value) ∷ es else e ∷ put number value es
 
+abbrev pub are_same_bytes : List ℕ → List ℕ → Bool
+are_same_bytes a b = pointwise (λ x y. x == y) a b
+
 abbrev pub is_same_entry : Entry → Entry → Bool
-is_same_entry (Simple a) (Simple b) = pointwise (λ x y. x == y) a b
+is_same_entry (Simple a) (Simple b) = are_same_bytes a b
+is_same_entry (Simple a) (Batch compression spare records uncompressed b) = false
+is_same_entry (Batch compression spare records uncompressed a) (Simple b) = false
+is_same_entry (Batch compression spare records uncompressed a) (Batch other_compression other_spare other_records other_uncompressed b) =
+    (compression == other_compression) && (spare == other_spare) && (records == other_records) && (uncompressed == other_uncompressed) && are_same_bytes a b
 
 -- the entry of a row without a tag
 abbrev pub untagged_by : Option Tag → Entry → List Entry

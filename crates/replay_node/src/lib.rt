@@ -2,6 +2,7 @@
 #![tactic(auto)]
 
 mod command;
+mod examples;
 mod node;
 mod output;
 mod player;
@@ -9,6 +10,7 @@ mod script;
 mod word;
 
 pub use command::Tagged;
+pub use examples::list_machine_on_literals;
 pub use node::Node;
 pub use player::{ReplayEnd, replay};
 pub use script::{LineFault, ScriptLine, read_line};

@@ -45,6 +45,19 @@ fn copy_entry(alloc: Global, entry: &Entry) -> Result<Entry, AllocError>
 {
     match entry {
         Entry::Simple(bytes) => Ok(Entry::Simple(Octets::copy(alloc, bytes.as_slice())?)),
+        Entry::Batch {
+            compression,
+            spare,
+            records,
+            uncompressed,
+            body,
+        } => Ok(Entry::Batch {
+            compression: *compression,
+            spare: *spare,
+            records: *records,
+            uncompressed: *uncompressed,
+            body: Octets::copy(alloc, body.as_slice())?,
+        }),
     }
 }
 

@@ -1,6 +1,10 @@
+use Rattle.std.specs.Int.{w64}
 use Rattle.frame_wire.specs.Fields.{u64_bytes}
-use Rattle.frame_wire.proofs.Numbers.{number_read}
+use Rattle.frame_wire.proofs.Numbers.{number_read, number_found}
 use Rattle.frame_wire.proofs.scan.Scan.u64.Goals as goal
 
-pub returns : goal.returns
-returns c = number_read u64_bytes 8 c.in-Some.value c.self.inside.bytes.now c.self.inside.at c.args.self.now c.rest.result.now c.self.view_is c.rest.ensures c.in-Some.ensures
+pub returns-clause-spelled : goal.returns-clause-spelled
+returns-clause-spelled c = number_read u64_bytes 8 c.in-Some.value c.self.inside.bytes.now c.self.inside.at c.args.self.now c.rest.result.now c.self.view_is c.rest.ensures c.in-Some.ensures.stands
+
+pub returns-clause-read : goal.returns-clause-read
+returns-clause-read c = number_found w64 c.in-Some.value c.self.inside.bytes.now c.self.inside.at c.args.self.now c.rest.result.now c.self.view_is c.rest.ensures c.in-Some.ensures.stands.1 c.in-Some.ensures.value

@@ -1,0 +1,9 @@
+//! Tests of `frame_wire`: each public call once, on bytes written by hand.
+#![tactic(auto)]
+
+#[cfg(test)]
+mod fields;
+#[cfg(test)]
+mod frames;
+#[cfg(test)]
+mod items;

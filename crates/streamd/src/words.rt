@@ -1,0 +1,45 @@
+//! The words of the command line.
+
+ghost use Rattle.std.specs.Prelude.{◌≡◌, ◌↔◌, IsTrue};
+ghost use Rattle.streamd.specs.Words.{AskFor, usage};
+
+use frame_wire::Octets;
+
+/// What the words of the command line ask for.
+#[derive(Clone, Copy, Debug, PartialEq, Eq)]
+pub enum Words {
+    /// To replay a script.
+    Replay,
+    /// To be told which words there are.
+    Usage,
+}
+
+/// Whether two words are the same.
+fn is_same(one: &[u8], other: &[u8]) -> bool
+    ensures { IsTrue result ↔ (one.now ≡ other.now) }
+{
+    one == other
+}
+
+/// What the words after the program's name ask for: `Replay` where they are the one word `replay`.
+pub fn read_words(words: &[Octets]) -> Words
+    ensures { AskFor words.now result }
+{
+    match words {
+        [word] => {
+            if is_same(word.as_slice(), b"replay") {
+                Words::Replay
+            } else {
+                Words::Usage
+            }
+        }
+        _ => Words::Usage,
+    }
+}
+
+/// The line that tells which words there are, with its line feed.
+pub fn usage_line() -> &'static [u8]
+    ensures { result.now ≡ usage }
+{
+    b"usage: streamd replay | load N | inspect SEGMENT INDEX | serve\n"
+}
