@@ -2,7 +2,8 @@
 """Holds docs/PROMISES.md against the tree.
 
 It fails where a clause that a row names does not stand in an `ensures` of that very call, where an edit of the tree is
-named in no row, where a row names an edit that is not in the tree, and where a row that says whole names no edit.
+named in no row, where a row names an edit or a definition that is not in the tree, and where a row that says whole
+names no edit.
 With a file as its argument it reads that file in place of docs/PROMISES.md.
 """
 import re
@@ -36,7 +37,7 @@ def labels_of(crate, path):
     *owner, name = path.split("::")
     found, calls = set(), 0
     for file in sorted((TOP / "crates" / crate / "src").rglob("*.rt")):
-        text = file.read_text()
+        text = re.sub(r"//[^\n]*", "", file.read_text())
         if owner:
             blocks = re.findall(r"^(?:impl|pub trait|trait)\b[^{;]*\b%s\b[^{;]*\{.*?^\}" % re.escape(owner[-1]), text, re.S | re.M)
         else:
@@ -52,11 +53,15 @@ def main():
     page = Path(sys.argv[1]) if len(sys.argv) > 1 else TOP / "docs" / "PROMISES.md"
     faults, named = [], set()
     tree = {"%s/%s" % (file.parts[-3], file.stem) for file in TOP.glob("crates/*/must-fail/*.edit")}
+    specs = "\n".join(file.read_text() for file in TOP.glob("crates/*/specs/**/*.antt"))
     for number, line in enumerate(page.read_text().splitlines(), 1):
         cells = [cell.strip() for cell in line.strip().strip("|").split("|")]
         if not line.startswith("|") or len(cells) != 5 or set(cells[0]) <= {"-"} or cells[0] == "Promise":
             continue
-        promise, _, calls, edits, state = cells
+        promise, definitions, calls, edits, state = cells
+        for name in re.findall(r"`(\w+)`", definitions):
+            if re.search(r"\b%s\b" % name, specs) is None:
+                faults.append("%d: %s: no definition %s in the specs" % (number, promise, name))
         for crate, path, labels in CALL.findall(calls):
             count, found = labels_of(crate, path)
             if count == 0:

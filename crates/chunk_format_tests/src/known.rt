@@ -1,7 +1,7 @@
 use chunk_format::{
-    Chunk, ChunkKind, DeltaParts, Entry, EntryParts, Header, SnapshotParts, Stored, check_chunk,
-    crc32, decode_chunk, encode_chunk, is_chunk, put_entry, split_delta, split_entry,
-    split_snapshot, split_tag,
+    Chunk, ChunkKind, DeltaParts, Entry, EntryParts, Header, SnapshotParts, Stored, TagParts,
+    check_chunk, crc32, decode_chunk, encode_chunk, is_chunk, put_delta, put_entry, put_snapshot,
+    put_tag, split_delta, split_entry, split_snapshot, split_tag,
 };
 use frame_wire::{Octets, Row};
 use std::alloc::Global;
@@ -168,5 +168,32 @@ fn items_stand_at_the_front(rt: HostRuntime) -> Result<(), Fail> {
         }
         _ => panic!(rt; "a sequence"),
     }
+    Ok(())
+}
+
+#[test]
+fn tracking_entries_have_known_bytes(rt: HostRuntime) -> Result<(), Fail> {
+    let mut out = Octets::new(rt.alloc());
+    put_tag(&mut out, TagParts { name: b"p", id: 3 })?;
+    put_delta(
+        &mut out,
+        DeltaParts::Offset {
+            name: b"r",
+            offset: 4,
+        },
+    )?;
+    put_snapshot(
+        &mut out,
+        SnapshotParts::Sequence {
+            name: b"p",
+            first: 2,
+            id: 5,
+        },
+    )?;
+    let bytes = hex::decode(
+        rt.alloc(),
+        "0001700000000000000003010172000000000000000400017000000000000000020000000000000005",
+    )?;
+    assert_eq!(rt; out.as_slice(), bytes.as_slice());
     Ok(())
 }

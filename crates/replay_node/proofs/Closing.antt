@@ -1,8 +1,8 @@
 -- The last line of a replay, and its status.
-use Rattle.std.proofs.Common.{◌≡◌, ◌≢◌, ℕ, ◌+◌, ◌<◌, ◌≤◌, ◌⊎◌, List, [], ◌∷◌, ◌++◌, length, Option, refl, sym, ap, subst, ◌∙◌, append_assoc, arith, inl, inr}
+use Rattle.std.proofs.Common.{◌≡◌, ◌≢◌, ℕ, ◌+◌, List, [], ◌++◌, length, Option, refl, sym, ap, subst, ◌∙◌, arith, inl, inr}
 use Rattle.std.proofs.lemmas.List.{append-nil}
 use Rattle.outside_io.specs.Causes.{HasCause, Rose}
-use Rattle.outside_io.specs.Known.{before_known, after_known, IsEmptyKnown}
+use Rattle.outside_io.specs.Known.{after_known}
 use Rattle.outside_io.proofs.KnownLaws.{added_none, added_more, taken_none}
 use Rattle.replay_node.specs.declared.player.ReplayEnd.{ReplayEnd}
 use Rattle.replay_node.specs.declared.player.ReplayEnd.TheVariants.{Done, Bad, ReadFault, WriteFault, Memory, TooLong}

@@ -1,8 +1,5 @@
 -- Each message that was given is confirmed in the end.
-use Rattle.std.proofs.Common.{◌≡◌, ℕ, ◌+◌, ◌≤◌, ◌⊎◌, List, [], ◌∷◌, ◌++◌, length, map, All, Option, Some, None, refl, sym, ap, subst, ◌∙◌, append_assoc, length-append, arith, inl, inr}
-use Rattle.std.specs.List.{flat_map}
-use Rattle.std.proofs.lemmas.List.{append-nil}
-use Rattle.std.proofs.lemmas.Grind.{flat_map-append}
+use Rattle.std.proofs.Common.{◌≡◌, ℕ, ◌⊎◌, List, [], ◌∷◌, ◌++◌, length, map, Some, refl, sym, ap, subst, ◌∙◌, append_assoc, arith, inl, inr}
 use Rattle.replay_node.specs.declared.command.Tagged.{Tagged}
 use Rattle.replay_node.specs.declared.script.ScriptLine.{ScriptLine}
 use Rattle.replay_node.specs.declared.script.ScriptLine.TheVariants.{Create, Prepare, Give, Poll, Settle}

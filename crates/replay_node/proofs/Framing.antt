@@ -9,7 +9,7 @@ use Rattle.frame_wire.proofs.FieldLaws.{same_front, u8_length, u16_length, u32_l
 use Rattle.chunk_format.specs.declared.entry.Entry.{Entry}
 use Rattle.chunk_format.specs.declared.entry.Entry.TheVariants.{Simple, Batch}
 use Rattle.replay_node.specs.declared.command.Tagged.{Tagged}
-use Rattle.replay_node.specs.Commands.{frame_max, tagged_bytes, publish_bytes, confirm_bytes, list_bytes, IsTagged, IsSimple, SpellsPublish, PublishesOne}
+use Rattle.replay_node.specs.Commands.{frame_max, tagged_bytes, publish_bytes, confirm_bytes, IsTagged, IsSimple, SpellsPublish, PublishesOne}
 use Rattle.replay_node.specs.Messages.{publish_head, confirm_head, message_fields, SpellsFields}
 
 -- one frame alone

@@ -1,12 +1,12 @@
 -- A script that has no Bad line, without faults, ends well.
-use Rattle.std.proofs.Common.{◌≡◌, ℕ, ◌+◌, ◌<◌, ◌≤◌, ◌⊎◌, List, [], ◌∷◌, ◌++◌, length, Option, Some, None, refl, sym, ap, subst, ◌∙◌, append_assoc, length-append, arith, inl, inr}
+use Rattle.std.proofs.Common.{◌≡◌, ℕ, ◌≤◌, ◌⊎◌, List, [], ◌++◌, length, Option, Some, None, refl, sym, ap, subst, ◌∙◌, append_assoc, length-append, arith, inl, inr}
 use Rattle.std.proofs.lemmas.List.{append-nil}
 use Rattle.outside_io.specs.Causes.{Rose}
 use Rattle.outside_io.specs.Known.{before_known, IsEmptyKnown}
 use Rattle.replay_node.specs.declared.player.ReplayEnd.{ReplayEnd}
 use Rattle.replay_node.specs.declared.player.ReplayEnd.TheVariants.{Done, Bad, ReadFault, WriteFault, Memory, TooLong}
 use Rattle.replay_node.specs.NodeState.{NodeState}
-use Rattle.replay_node.specs.Replays.{status_of, most_bytes, IsBadNext, IsBadLast, lines_bytes, Replays}
+use Rattle.replay_node.specs.Replays.{status_of, most_bytes, IsBadNext, lines_bytes, Replays}
 use Rattle.replay_node.specs.Complete.{IsGoodScript}
 
 -- what was taken of a told script, and what is left of it

@@ -1,12 +1,10 @@
 -- A replay is a run of the list machine.
-use Rattle.std.proofs.Common.{◌≡◌, ◌≢◌, ℕ, ◌+◌, ◌^◌, ◌<◌, ◌≤◌, ◌⊎◌, List, [], ◌∷◌, ◌++◌, length, map, All, Option, refl, sym, ap, subst, ◌∙◌, append_assoc, length-append, arith, inl, inr}
+use Rattle.std.proofs.Common.{◌≡◌, ◌≢◌, ℕ, ◌+◌, ◌^◌, ◌<◌, ◌≤◌, ◌⊎◌, List, [], ◌∷◌, ◌++◌, length, map, Option, refl, sym, ap, subst, ◌∙◌, append_assoc, length-append, arith, inl, inr}
 use Rattle.std.specs.List.{flat_map, AllByRecursion}
 use Rattle.std.specs.Fmt.{decimal}
 use Rattle.std.proofs.lemmas.List.{append-nil, map-append}
-use Rattle.std.proofs.lemmas.List.Elements.{All-nil, All-append, recursion_from_All, All-head}
+use Rattle.std.proofs.lemmas.List.Elements.{All-nil}
 use Rattle.std.proofs.lemmas.Grind.{flat_map-append}
-use Rattle.outside_io.specs.Known.{before_known, after_known}
-use Rattle.outside_io.proofs.KnownLaws.{added_none, taken_none}
 use Rattle.chunk_format.specs.declared.chunk.Chunk.{Chunk}
 use Rattle.replay_node.specs.declared.command.Tagged.{Tagged}
 use Rattle.replay_node.specs.declared.script.ScriptLine.{ScriptLine}
@@ -17,11 +15,11 @@ use Rattle.replay_node.specs.Words.{line_feed, Lacks}
 use Rattle.replay_node.specs.Script.{words_of, line_bytes, IsScriptLine}
 use Rattle.replay_node.specs.Outputs.{Output, output_bytes}
 use Rattle.replay_node.specs.NodeState.{NodeState, new_node, LineGives, commit_of, confirm_of, chunks_from, end_of_list, opening}
-use Rattle.replay_node.specs.Replays.{Answers, lines_bytes, outputs_bytes, all_bytes, Begins, Replays, Ends, IsWithin, IsNext, IsNextGiven, end_line, bad_line, most_bytes}
+use Rattle.replay_node.specs.Replays.{Answers, lines_bytes, outputs_bytes, all_bytes, Begins, Replays, Ends, IsWithin, IsNextGiven, end_line, bad_line}
 use Rattle.replay_node.specs.Machine.{Machine, empty_machine}
 use Rattle.replay_node.specs.MachineSteps.{Event, read, wrote, MachineRun}
 use Rattle.replay_node.specs.Transcripts.{read_bytes, wrote_bytes, IsTail, Transcript, Transcribed, line_events}
-use Rattle.replay_node.specs.Shown.{Shows, machine_of, RunsTo}
+use Rattle.replay_node.specs.Shown.{Shows, RunsTo}
 use Rattle.replay_node.proofs.Runs.{line_runs, new_shows}
 use Rattle.replay_node.proofs.Cutting.{HasNumber, IsOneLine, IsCut, cut_outputs, cut_line, number_lacks, lacks_more, OtherByte}
 

@@ -1,16 +1,16 @@
 -- What a node's fields stand for before and after a line.
-use Rattle.std.proofs.Common.{◌≡◌, ℕ, ◌+◌, ◌-◌, ◌^◌, ◌<◌, ◌≤◌, List, [], ◌∷◌, ◌++◌, length, take, drop, map, All, Option, Some, None, Ok, Bool, true, false, not, is_some, rules, refl, sym, ap, subst, ◌∙◌, append_assoc, length-append, arith}
-use Rattle.std.proofs.lemmas.List.{append-nil, take-append-drop, length-take, take-append-le, drop-append-le, drop-take, take_rest}
+use Rattle.std.proofs.Common.{◌≡◌, ℕ, ◌+◌, ◌-◌, ◌≤◌, List, [], ◌∷◌, ◌++◌, length, take, drop, map, All, Option, Some, None, Ok, Bool, true, false, not, is_some, rules, refl, sym, ap, subst, ◌∙◌, arith}
+use Rattle.std.proofs.lemmas.List.{take-append-drop, length-take, take-append-le, drop-append-le, drop-take, take_rest}
 use Rattle.std.proofs.Math.ListN.{drop_of_length-le}
 use Rattle.std.proofs.Math.Seq.{take-length, drop-length}
 use Rattle.std.proofs.lemmas.List.Elements.{All-head, All-tail, All-append, All-take, All-from_recursion}
 use Rattle.chunk_format.specs.declared.chunk.Chunk.{Chunk}
 use Rattle.chunk_format.specs.Chunks.{end_of_chunk, IsChunk}
 use Rattle.replay_node.specs.declared.command.Tagged.{Tagged}
-use Rattle.replay_node.specs.declared.script.ScriptLine.TheVariants.{Create, Prepare, Give, Poll, Settle}
+use Rattle.replay_node.specs.declared.script.ScriptLine.TheVariants.{Give, Poll, Settle}
 use Rattle.replay_node.specs.Commands.{IsTagged, IsMessage, PublishesOne}
 use Rattle.replay_node.specs.Outputs.{Output, output_lines}
-use Rattle.replay_node.specs.NodeState.{NodeState, opening, message_chunk, chunks_from, end_of_list, commit_of, confirm_of, LineGives, Refuses, AnswersLine}
+use Rattle.replay_node.specs.NodeState.{NodeState, opening, message_chunk, chunks_from, end_of_list, commit_of, confirm_of, LineGives, AnswersLine}
 use Rattle.replay_node.specs.NodeFields.{list_of, HasPlace}
 use Rattle.replay_node.proofs.Commits.{message_end}
 

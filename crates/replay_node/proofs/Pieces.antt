@@ -1,6 +1,6 @@
 -- The lines that a piece completes.
-use Rattle.std.proofs.Common.{◌≡◌, ◌≢◌, ℕ, ◌+◌, ◌-◌, ◌<◌, ◌≤◌, ◌⊎◌, List, [], ◌∷◌, ◌++◌, length, take, drop, All, Option, refl, sym, ap, subst, ◌∙◌, append_assoc, length-append, arith, inl, inr}
-use Rattle.std.proofs.lemmas.List.{append-nil, take-append-drop, take_rest, take_at, length-take}
+use Rattle.std.proofs.Common.{◌≡◌, ◌≢◌, ℕ, ◌+◌, ◌<◌, ◌≤◌, List, [], ◌∷◌, ◌++◌, length, take, drop, Option, refl, sym, ap, subst, ◌∙◌, append_assoc, length-append, arith, inl, inr}
+use Rattle.std.proofs.lemmas.List.{append-nil, take-append-drop, take_at, length-take}
 use Rattle.std.proofs.lemmas.List.Elements.{All-append, All-nil}
 use Rattle.outside_io.specs.Known.{after_known}
 use Rattle.outside_io.specs.Causes.{HasCause}
@@ -11,7 +11,7 @@ use Rattle.replay_node.specs.declared.player.ReplayEnd.TheVariants.{Done, Bad, R
 use Rattle.replay_node.specs.Words.{line_feed, Lacks, SplitsAt}
 use Rattle.replay_node.specs.Script.{line_bytes, longest_line}
 use Rattle.replay_node.specs.NodeState.{NodeState}
-use Rattle.replay_node.specs.Replays.{Begins, IsOpen, IsComplete, IsBadNext, IsNextGiven, Plays, outputs_bytes}
+use Rattle.replay_node.specs.Replays.{IsOpen, IsComplete, IsBadNext, IsNextGiven, Plays, outputs_bytes}
 use Rattle.replay_node.specs.Plays.{Cuts, AnswersOne, SoFar, StopsAt, PiecePlays, IsLineEnd}
 use Rattle.replay_node.proofs.Playing.{plays_none, plays_line, plays_then, plays_more, no_feed_is_bad}
 

@@ -1,21 +1,18 @@
 -- Lines and their outputs, one after the other.
-use Rattle.std.proofs.Common.{◌≡◌, ◌≢◌, ℕ, suc, ◌+◌, ◌-◌, ◌<◌, ◌≤◌, ◌⊎◌, List, [], ◌∷◌, ◌++◌, length, get_or, take, drop, map, All, Option, Some, None, refl, sym, ap, subst, ◌∙◌, append_assoc, length-append, add-one, drop-cons, arith, inl, inr}
-use Rattle.std.specs.List.{flat_map}
+use Rattle.std.proofs.Common.{◌≡◌, ℕ, suc, ◌+◌, ◌<◌, List, [], ◌∷◌, ◌++◌, length, get_or, take, drop, Option, refl, sym, ap, subst, ◌∙◌, append_assoc, length-append, add-one, drop-cons}
 use Rattle.std.proofs.lemmas.List.{append-nil, take-append-drop}
 use Rattle.std.proofs.lemmas.List.Elements.{All-append, All-nil, All-from_recursion}
 use Rattle.std.proofs.lemmas.Grind.{flat_map-append}
-use Rattle.outside_io.specs.Known.{after_known, before_known}
+use Rattle.outside_io.specs.Known.{after_known}
 use Rattle.outside_io.specs.declared.sink.Gave.TheVariants as gave
-use Rattle.outside_io.proofs.KnownLaws.{after_twice, after_none, added_none, added_more}
+use Rattle.outside_io.proofs.KnownLaws.{added_more}
 use Rattle.replay_node.specs.declared.script.ScriptLine.{ScriptLine}
-use Rattle.replay_node.specs.declared.player.ReplayEnd.{ReplayEnd}
-use Rattle.replay_node.specs.declared.player.ReplayEnd.TheVariants.{Done, Bad, ReadFault, WriteFault, Memory, TooLong}
 use Rattle.replay_node.specs.Words.{line_feed, Lacks}
-use Rattle.replay_node.specs.Script.{words_of, line_bytes, longest_line, IsScriptLine, Spells}
+use Rattle.replay_node.specs.Script.{words_of, line_bytes, IsScriptLine, Spells}
 use Rattle.replay_node.specs.Outputs.{Output, output_bytes, output_lines}
 use Rattle.replay_node.specs.NodeState.{NodeState, LineGives, IsBad}
-use Rattle.replay_node.specs.Replays.{Answers, lines_bytes, outputs_bytes, all_bytes, Begins, IsOpen, IsComplete, IsBadNext, IsNextGiven, Plays}
-use Rattle.replay_node.specs.Plays.{joined, Cuts, AnswersOne, SoFar, StopsAt, PiecePlays, IsLineEnd}
+use Rattle.replay_node.specs.Replays.{Answers, lines_bytes, outputs_bytes, all_bytes, Plays}
+use Rattle.replay_node.specs.Plays.{joined, Cuts}
 use Rattle.replay_node.proofs.Splits.{lacks_it_not}
 
 -- the lines of outputs are their bytes

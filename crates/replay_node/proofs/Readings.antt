@@ -1,5 +1,5 @@
 -- The letter of a line tells its kind, and the words behind it have one reading.
-use Rattle.std.proofs.Common.{◌≡◌, ◌≢◌, ℕ, ◌^◌, ◌<◌, ◌≤◌, List, [], ◌∷◌, ◌++◌, length, get_or, drop, Some, None, refl, sym, ap, subst, ◌∙◌, append_assoc, length-append, arith}
+use Rattle.std.proofs.Common.{◌≡◌, ℕ, ◌^◌, ◌<◌, ◌≤◌, List, [], ◌∷◌, ◌++◌, length, get_or, drop, Some, None, refl, sym, ap, subst, ◌∙◌, length-append, arith}
 use Rattle.std.specs.Fmt.{decimal}
 use Rattle.std.proofs.lemmas.Fmt.{decimal_injective}
 use Rattle.hex.specs.Hex.{encode_lower}
@@ -7,8 +7,7 @@ use Rattle.frame_wire.proofs.FieldLaws.{same_front}
 use Rattle.replay_node.specs.declared.script.ScriptLine.{ScriptLine}
 use Rattle.replay_node.specs.declared.script.ScriptLine.TheVariants.{Create, Prepare, Give, Poll, Settle}
 use Rattle.replay_node.specs.Words.{space, line_feed, IsName, IsGiven}
-use Rattle.replay_node.specs.Script.{words_of, line_bytes, HasGoodWords, IsScriptLine, Spells, ReadsWords}
-use Rattle.replay_node.proofs.Decimals.{IsNoNumber}
+use Rattle.replay_node.specs.Script.{words_of, HasGoodWords, Spells, ReadsWords}
 use Rattle.replay_node.proofs.HexText.{IsNoHex, reads_back, one_reading}
 use Rattle.replay_node.specs.NodeState.{NodeState, Refuses, IsBad}
 use Rattle.replay_node.proofs.Splits.{IsNoPair, cut_same, decimal_has_no_space}

@@ -1,9 +1,9 @@
 -- What a node gives is a run of the list machine.
-use Rattle.std.proofs.Common.{◌≡◌, ◌≢◌, ℕ, ◌+◌, ◌^◌, ◌<◌, ◌≤◌, Bool, true, false, cond, List, [], ◌∷◌, ◌++◌, length, map, All, Option, Some, None, Result, Ok, Err, IfOk, refl, sym, ap, subst, ◌∙◌, append_assoc, length-append, eq-eqb, IsSome, arith}
+use Rattle.std.proofs.Common.{◌≡◌, ℕ, ◌+◌, ◌^◌, ◌<◌, ◌≤◌, Bool, true, cond, List, [], ◌∷◌, ◌++◌, map, Option, Some, None, Result, Ok, Err, IfOk, refl, sym, ap, subst, ◌∙◌, append_assoc, eq-eqb, IsSome, arith}
 use Rattle.std.specs.Prelude.{◌==◌, count_by}
 use Rattle.std.specs.List.{flat_map, AllByRecursion}
 use Rattle.std.proofs.lemmas.List.{append-nil, map-append}
-use Rattle.std.proofs.lemmas.List.Elements.{All-head, All-tail, All-from_recursion, recursion_from_All}
+use Rattle.std.proofs.lemmas.List.Elements.{All-head, All-from_recursion, recursion_from_All}
 use Rattle.std.proofs.lemmas.List.Sums.{sum_by-append}
 use Rattle.std.proofs.lemmas.Grind.{flat_map-append}
 use Rattle.frame_wire.specs.Frames.{frame}
@@ -15,13 +15,13 @@ use Rattle.chunk_format.proofs.ChunkLaws.{Rows-append}
 use Rattle.replay_node.specs.declared.command.Tagged.{Tagged}
 use Rattle.replay_node.specs.declared.script.ScriptLine.{ScriptLine}
 use Rattle.replay_node.specs.declared.script.ScriptLine.TheVariants.{Create, Prepare, Give, Poll, Settle}
-use Rattle.replay_node.specs.Commands.{IsMessage, IsTagged, confirm_bytes, PublishesOne, SpellsConfirm}
-use Rattle.replay_node.specs.Outputs.{Output, committed, sent}
+use Rattle.replay_node.specs.Commands.{IsMessage, IsTagged, confirm_bytes, PublishesOne}
+use Rattle.replay_node.specs.Outputs.{Output}
 use Rattle.replay_node.specs.NodeState.{NodeState, opening, message_chunk, chunks_from, end_of_list, commit_of, confirm_of, LineGives}
-use Rattle.replay_node.specs.Machine.{StreamState, PublisherState, ConnectionState, Machine, find, put, is_same_entry, untagged_of, untagged, Counted, last_epoch}
-use Rattle.replay_node.specs.MachineSteps.{new_stream, prepared, ReadStep, ReadsFrame, GiveStep, CommitStep, ConfirmStep, Event, read, wrote, MachineStep, MachineRun}
+use Rattle.replay_node.specs.Machine.{ConnectionState, Machine, find, put, is_same_entry, untagged_of, untagged, last_epoch}
+use Rattle.replay_node.specs.MachineSteps.{new_stream, GiveStep, CommitStep, ConfirmStep, Event, wrote, MachineRun}
 use Rattle.replay_node.specs.Transcripts.{line_events}
-use Rattle.replay_node.specs.Shown.{entries, frames_of, node_with, stream_with, connection_with, last_of, streams_of, connections_of, machine_of, Placed, IsShown, Shows, RunsTo, LineRuns}
+use Rattle.replay_node.specs.Shown.{entries, frames_of, node_with, stream_with, connection_with, connections_of, machine_of, Placed, IsShown, Shows, RunsTo, LineRuns}
 use Rattle.replay_node.specs.NodeState.{new_node, LineAnswered, AnswersLine}
 use Rattle.replay_node.specs.Script.{Spells}
 use Rattle.replay_node.specs.declared.script.LineFault.{LineFault}

@@ -1,12 +1,12 @@
 -- A script that is read in pieces.
-use Rattle.std.proofs.Common.{◌≡◌, ◌≢◌, ℕ, ◌+◌, ◌<◌, ◌≤◌, ◌⊎◌, List, [], ◌∷◌, ◌++◌, length, Option, refl, sym, ap, subst, ◌∙◌, append_assoc, length-append, arith, inl, inr}
+use Rattle.std.proofs.Common.{◌≡◌, ℕ, ◌+◌, ◌<◌, ◌≤◌, List, [], ◌++◌, length, Option, refl, sym, ap, subst, ◌∙◌, append_assoc, length-append, arith, inl, inr}
 use Rattle.std.proofs.lemmas.List.{append-nil}
 use Rattle.outside_io.specs.Known.{before_known, after_known, IsEmptyKnown}
 use Rattle.outside_io.proofs.KnownLaws.{added_none, added_more, taken_none, taken_more}
 use Rattle.replay_node.specs.declared.player.ReplayEnd.{ReplayEnd}
 use Rattle.replay_node.specs.declared.player.ReplayEnd.TheVariants.{Done, Bad, ReadFault, WriteFault, Memory, TooLong}
 use Rattle.replay_node.specs.NodeState.{NodeState, new_node}
-use Rattle.replay_node.specs.Replays.{most_bytes, IsOpen, IsBadLast, IsWithin, Plays}
+use Rattle.replay_node.specs.Replays.{most_bytes, IsOpen, IsWithin, Plays}
 use Rattle.replay_node.specs.Plays.{StopsAt, PiecePlays, ScriptSoFar, ScriptPlays, Stops}
 use Rattle.replay_node.proofs.Playing.{plays_none, plays_then, plays_more, no_feed_is_bad}
 

@@ -1,12 +1,11 @@
 -- Words that end at a space: there is one way to split them.
-use Rattle.std.proofs.Common.{◌≡◌, ◌≢◌, ℕ, ◌^◌, ◌<◌, ◌≤◌, List, [], ◌∷◌, ◌++◌, length, get_or, drop, All, refl, sym, ap, subst, ◌∙◌, arith}
+use Rattle.std.proofs.Common.{◌≡◌, ◌≢◌, ℕ, ◌^◌, ◌<◌, List, [], ◌∷◌, ◌++◌, get_or, drop, refl, sym, ap, subst, ◌∙◌, arith}
 use Rattle.std.specs.Fmt.{decimal}
-use Rattle.std.specs.Str.Parse.{AllDigits, digits_value}
 use Rattle.std.specs.Int.{IsInRange}
 use Rattle.std.proofs.lemmas.Fmt.{digits_decimal}
 use Rattle.std.proofs.lemmas.List.{get_or_default}
 use Rattle.std.proofs.lemmas.List.Elements.{All-head, All-tail}
-use Rattle.std.proofs.lemmas.Str.Parse.{IsNumeralModel, numerals_by_value, tells_digits, not_in_digits}
+use Rattle.std.proofs.lemmas.Str.Parse.{not_in_digits}
 use Rattle.replay_node.specs.Words.{Lacks, SplitsAt, space}
 use Rattle.replay_node.proofs.Decimals.{IsNoNumber, own}
 

@@ -1,5 +1,5 @@
 -- The list machine: what a stream server must be, with no queue, file, member or buffer in it.
-use Rattle.std.specs.Prelude.{◌≡◌, ℕ, ◌+◌, ◌≤◌, ◌==◌, if◌then◌else◌, Bool, false, ◌&&◌, List, [], ◌∷◌, ◌++◌, map, count_by, Option, Some, None}
+use Rattle.std.specs.Prelude.{ℕ, ◌≤◌, ◌==◌, if◌then◌else◌, Bool, false, ◌&&◌, List, [], ◌∷◌, count_by, Option, Some, None}
 use Rattle.std.specs.List.{flat_map}
 use Rattle.std.specs.Cmp.Lexicographic.{pointwise}
 use Rattle.chunk_format.specs.declared.entry.Entry.{Entry}

@@ -1,5 +1,5 @@
 -- The steps of the list machine: what a line that is read does, and what a line that is written does.
-use Rattle.std.specs.Prelude.{◌≡◌, ℕ, ◌+◌, ◌≤◌, List, [], ◌∷◌, ◌++◌, map, Option, Some, None}
+use Rattle.std.specs.Prelude.{◌≡◌, ℕ, ◌+◌, ◌≤◌, List, [], ◌∷◌, ◌++◌, map, Some, None}
 use Rattle.frame_wire.specs.Frames.{frame, Frames}
 use Rattle.chunk_format.specs.declared.chunk.Chunk.{Chunk}
 use Rattle.chunk_format.specs.Chunks.{ChunkSpells}

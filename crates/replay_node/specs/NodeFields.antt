@@ -1,5 +1,5 @@
 -- What the fields of a node stand for.
-use Rattle.std.specs.Prelude.{◌≡◌, ◌≤◌, ◌<◌, ◌^◌, ◌+◌, List, [], ◌∷◌, length, take, drop, Option, Some, None, ℕ, All}
+use Rattle.std.specs.Prelude.{◌≡◌, ◌≤◌, List, [], ◌∷◌, length, take, drop, Option, Some, None, ℕ, All}
 use Rattle.chunk_format.specs.declared.chunk.Chunk.{Chunk}
 use Rattle.replay_node.specs.declared.command.Tagged.{Tagged}
 use Rattle.replay_node.specs.declared.node.Node.TheInside.{Inside}

@@ -1,5 +1,5 @@
 -- One line, and the lines that it gives, on their way out.
-use Rattle.std.specs.Prelude.{◌≡◌, ℕ, ◌+◌, ◌≤◌, ◌<◌, ◌⊎◌, ◌++◌, ◌∷◌, [], List, length, Option}
+use Rattle.std.specs.Prelude.{◌≡◌, ℕ, ◌+◌, ◌≤◌, ◌⊎◌, ◌++◌, ◌∷◌, [], List, length, Option}
 use Rattle.std.specs.List.{flat_map}
 use Rattle.outside_io.specs.Known.{before_known, after_known, IsEmptyKnown}
 use Rattle.outside_io.specs.declared.sink.Gave.{Gave}

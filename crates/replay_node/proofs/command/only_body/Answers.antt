@@ -1,5 +1,5 @@
 use Rattle.std.proofs.Common.{◌∙◌, sym, ap, length, arith}
-use Rattle.replay_node.proofs.Framing.{only_frame, too_short, too_large, other_size}
+use Rattle.replay_node.proofs.Framing.{too_short, too_large, other_size}
 use Rattle.replay_node.proofs.command.only_body.Goals as goal
 
 pub returns-in_default : goal.returns-in_default

@@ -1,4 +1,4 @@
-use Rattle.std.proofs.Common.{◌∙◌, ◌≡◌, ap, subst, List, ℕ}
+use Rattle.std.proofs.Common.{◌∙◌, ◌≡◌, ap, subst}
 use Rattle.outside_io.specs.Known.{after_known}
 use Rattle.replay_node.specs.Plays.{joined}
 use Rattle.replay_node.specs.Replays.{outputs_bytes, Begins}

@@ -1,8 +1,7 @@
-use Rattle.std.proofs.Common.{◌∙◌, ◌≡◌, ◌++◌, ◌<◌, ◌≤◌, List, ℕ, ap, sym, subst, length, take, refl, arith}
+use Rattle.std.proofs.Common.{◌≡◌, length, take, arith}
 use Rattle.std.proofs.lemmas.List.{length-take}
-use Rattle.replay_node.specs.declared.player.ReplayEnd.TheVariants.{Done, Bad}
 use Rattle.replay_node.proofs.Pieces.{cause_since, open_none}
-use Rattle.replay_node.proofs.Scripts.{script_start, script_piece, script_stopped, script_read_fault, script_ended, script_too_long, not_read_fault}
+use Rattle.replay_node.proofs.Scripts.{script_start, script_piece, script_stopped, script_ended, script_too_long, not_read_fault}
 use Rattle.replay_node.proofs.player.play.Goals as goal
 
 pub pieces-init : goal.pieces-init

@@ -1,6 +1,6 @@
-use Rattle.std.proofs.Common.{◌∙◌, ◌≡◌, ◌++◌, ◌<◌, ◌≤◌, List, ℕ, ap, sym, subst, length, refl, arith}
-use Rattle.replay_node.specs.declared.player.ReplayEnd.TheVariants.{Done, Bad}
-use Rattle.replay_node.proofs.Pieces.{line_end, so_far_none, so_far_line, so_far_stopped, so_far_end, still_begun, grew_too_long, cause_since, open_none}
+use Rattle.std.proofs.Common.{◌∙◌, ◌≡◌, ◌++◌, List, ℕ, ap, sym, refl, arith}
+use Rattle.replay_node.specs.declared.player.ReplayEnd.TheVariants.{Bad}
+use Rattle.replay_node.proofs.Pieces.{line_end, so_far_none, so_far_line, so_far_stopped, so_far_end, grew_too_long, cause_since, open_none}
 use Rattle.replay_node.proofs.player.take_piece.Goals as goal
 
 pub lines-init : goal.lines-init

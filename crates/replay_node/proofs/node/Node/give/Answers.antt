@@ -1,4 +1,4 @@
-use Rattle.std.proofs.Common.{◌∙◌, refl, ap, ◌∷◌, [], length, length-append, arith}
+use Rattle.std.proofs.Common.{◌∙◌, refl, ap, ◌∷◌, [], length-append, arith}
 use Rattle.replay_node.specs.NodeState.{NodeState}
 use Rattle.replay_node.proofs.NodeSteps.{give_answer, place_more, messages_more}
 use Rattle.replay_node.proofs.node.Node.give.Goals as goal

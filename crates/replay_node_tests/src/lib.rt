@@ -1,0 +1,17 @@
+//! Tests of `replay_node`: what no clause there says.
+#![tactic(auto)]
+
+#[cfg(test)]
+mod bad_lines;
+#[cfg(test)]
+mod long_lines;
+#[cfg(test)]
+mod nodes;
+#[cfg(test)]
+mod replays;
+#[cfg(test)]
+mod scripts;
+#[cfg(test)]
+mod sources;
+#[cfg(test)]
+mod values;
