@@ -1,0 +1,9 @@
+pub mod Chain
+pub mod CrashLoop
+pub mod Crashes
+pub mod DiskCalls
+pub mod Laying
+pub mod Names
+pub mod NamesThere
+pub mod Parts
+pub mod Tearing

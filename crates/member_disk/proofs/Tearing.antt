@@ -1,0 +1,60 @@
+-- Calls that were torn, or not.
+use Rattle.std.proofs.Common.{◌≡◌, ℕ, zero, suc, ◌+◌, ◌≤◌, Bool, true, false, List, [], ◌∷◌, ◌++◌, length, take, drop, Some, None, refl, sym, ◌∙◌, ap, subst, arith}
+use Rattle.std.proofs.lemmas.List.{take_all}
+use Rattle.member_disk.specs.Disk.{Image, TornFile}
+use Rattle.member_disk.specs.Memory.{done, all_done, Tears, TearsAll, has_write, torn_call, torn_last}
+use Rattle.member_disk.specs.TornDone.{take_min, over_file, cut_done, done_tears}
+use Rattle.member_disk.specs.declared.memory_file.Call.{Call}
+use Rattle.member_disk.specs.declared.memory_file.Call.TheVariants as call
+
+pub tears_last : (calls : List Call) (x : Call) (old new : Image) → TearsAll (calls ++ x ∷ []) old new → (d : Image) × TearsAll calls old d × Tears x d new
+tears_last [] x old new (mid, step, is) = (old, refl, subst (λ (c : Image). Tears x old c) (sym is) step)
+tears_last (c ∷ calls) x old new (mid, step, rest) =
+    let found = tears_last calls x mid new rest in
+    (found.0, (mid, step, found.1), found.2)
+
+torn_stays : (at n : ℕ) (old : Image) → TornFile at n old old
+torn_stays at n None = tt
+torn_stays at n (Some old) = record { before = take_min at old; after = refl; no_shorter = omega arith; no_longer = omega arith }
+
+pub stays : (c : Call) (old : Image) → Tears c old old
+stays (call.Write at v) old = torn_stays at (length v) old
+stays (call.Cut n) None = tt
+stays (call.Cut n) (Some old) = record { no_shorter = omega arith; front = sym (take_all (length old) old (omega arith)) }
+
+pub all_stay : (calls : List Call) (old : Image) → TearsAll calls old old
+all_stay [] old = refl
+all_stay (c ∷ calls) old = (old, stays c old, all_stay calls old)
+
+pub all_done_push : (calls : List Call) (x : Call) (old : Image) → all_done (calls ++ x ∷ []) old ≡ done x (all_done calls old)
+all_done_push [] x old = refl
+all_done_push (c ∷ calls) x old = all_done_push calls x (done c old)
+
+-- calls in two parts
+pub all_done_parts : (n : ℕ) (calls : List Call) (old : Image) → all_done (drop n calls) (all_done (take n calls) old) ≡ all_done calls old
+all_done_parts zero calls old = refl
+all_done_parts (suc n) [] old = refl
+all_done_parts (suc n) (c ∷ calls) old = all_done_parts n calls (done c old)
+
+-- calls of which the first are done before the others are torn
+pub tears_rest : (n : ℕ) (calls : List Call) (old new : Image) → TearsAll (drop n calls) (all_done (take n calls) old) new → TearsAll calls old new
+tears_rest zero calls old new tears = tears
+tears_rest (suc n) [] old new tears = tears
+tears_rest (suc n) (c ∷ calls) old new tears = (done c old, done_tears c old, tears_rest n calls (done c old) new tears)
+
+-- a write with fewer bytes is one that was torn
+torn_call_tears : (tear : List ℕ → List ℕ) → ((v : List ℕ) → length (tear v) ≤ length v) → (c : Call) (later : Bool) (old : Image) → Tears c old (done (torn_call tear c later) old)
+torn_call_tears tear less (call.Write at v) true old = done_tears (call.Write at v) old
+torn_call_tears tear less (call.Write at v) false old = over_file old (tear v) at (length v) (less v)
+torn_call_tears tear less (call.Cut n) later old = cut_done n old
+
+pub torn_last_tears : (tear : List ℕ → List ℕ) → ((v : List ℕ) → length (tear v) ≤ length v) → (calls : List Call) (old : Image) → TearsAll calls old (all_done (torn_last tear calls) old)
+torn_last_tears tear less [] old = refl
+torn_last_tears tear less (c ∷ calls) old =
+    let mid = done (torn_call tear c (has_write calls)) old in
+    (mid, torn_call_tears tear less c (has_write calls) old, torn_last_tears tear less calls mid)
+
+-- one call more
+pub all_done_step : (calls : List Call) (i : ℕ) (x : Call) (old new now : Image) → take (i + 1) calls ≡ take i calls ++ x ∷ [] → now ≡ all_done (take i calls) old → new ≡ done x now → new ≡ all_done (take (i + 1) calls) old
+all_done_step calls i x old new now more so_far step =
+    step ∙ ap (λ (c : Image). done x c) so_far ∙ sym (all_done_push (take i calls) x old) ∙ ap (λ (cs : List Call). all_done cs old) (sym more)

@@ -1,0 +1,9 @@
+pub mod Disk
+pub mod FileNames
+pub mod Memory
+pub mod Settings
+pub mod Streams
+pub mod MemoryDisks
+pub mod TornDone
+pub mod Joined
+pub mod Laid
