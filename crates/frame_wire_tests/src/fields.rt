@@ -57,53 +57,58 @@ fn fields_are_read_in_order(rt: HostRuntime) {
     assert_eq!(rt; scan.place(), ALL.len());
 }
 
+const SHORT: FieldFault = FieldFault::Short { place: 1 };
+
+const NEGATIVE: FieldFault = FieldFault::Negative { place: 1 };
+
+/// One byte to pass over, then a field: as a text, as a blob and as a count.
+type Case = (
+    &'static [u8],
+    Result<Option<&'static [u8]>, FieldFault>,
+    Result<Option<&'static [u8]>, FieldFault>,
+    Result<u32, FieldFault>,
+);
+
+const CASES: [Case; 9] = [
+    (&[0], Err(SHORT), Err(SHORT), Err(SHORT)),
+    (&[0, 0], Err(SHORT), Err(SHORT), Err(SHORT)),
+    (&[0, 0, 1], Err(SHORT), Err(SHORT), Err(SHORT)),
+    (&[0, 0, 0], Ok(Some(&[])), Err(SHORT), Err(SHORT)),
+    (
+        &[0, 0, 1, 0x61, 0, 0],
+        Ok(Some(&[0x61])),
+        Err(SHORT),
+        Ok(0x0001_6100),
+    ),
+    (
+        &[0, 0xff, 0xff, 0xff, 0xff],
+        Ok(None),
+        Ok(None),
+        Err(NEGATIVE),
+    ),
+    (
+        &[0, 0xff, 0xfe, 0xff, 0xff],
+        Err(NEGATIVE),
+        Err(NEGATIVE),
+        Err(NEGATIVE),
+    ),
+    (
+        &[0, 0x80, 0, 0, 0],
+        Err(NEGATIVE),
+        Err(NEGATIVE),
+        Err(NEGATIVE),
+    ),
+    (
+        &[0, 0x7f, 0xff, 0xff, 0xff],
+        Err(SHORT),
+        Err(SHORT),
+        Ok(0x7fff_ffff),
+    ),
+];
+
 #[test]
 fn a_fault_names_its_first_place_and_moves_nothing(rt: HostRuntime) {
-    let short = FieldFault::Short { place: 1 };
-    let negative = FieldFault::Negative { place: 1 };
-    // One byte to pass over, then a field: as a text, as a blob and as a count.
-    let cases: [(
-        &[u8],
-        Result<Option<&[u8]>, FieldFault>,
-        Result<Option<&[u8]>, FieldFault>,
-        Result<u32, FieldFault>,
-    ); 9] = [
-        (&[0], Err(short), Err(short), Err(short)),
-        (&[0, 0], Err(short), Err(short), Err(short)),
-        (&[0, 0, 1], Err(short), Err(short), Err(short)),
-        (&[0, 0, 0], Ok(Some(&[])), Err(short), Err(short)),
-        (
-            &[0, 0, 1, 0x61, 0, 0],
-            Ok(Some(&[0x61])),
-            Err(short),
-            Ok(0x0001_6100),
-        ),
-        (
-            &[0, 0xff, 0xff, 0xff, 0xff],
-            Ok(None),
-            Ok(None),
-            Err(negative),
-        ),
-        (
-            &[0, 0xff, 0xfe, 0xff, 0xff],
-            Err(negative),
-            Err(negative),
-            Err(negative),
-        ),
-        (
-            &[0, 0x80, 0, 0, 0],
-            Err(negative),
-            Err(negative),
-            Err(negative),
-        ),
-        (
-            &[0, 0x7f, 0xff, 0xff, 0xff],
-            Err(short),
-            Err(short),
-            Ok(0x7fff_ffff),
-        ),
-    ];
-    for (bytes, text, blob, count) in cases {
+    for (bytes, text, blob, count) in CASES {
         let mut scan = Scan::new(bytes);
         assert_eq!(rt; scan.u8(), Ok(0), "at {bytes:?}");
         assert_eq!(rt; scan.fork().text(), text, "at {bytes:?}");

@@ -11,56 +11,64 @@ fn pass_on<S: Source, K: Sink>(source: &mut S, sink: &mut K) -> (Took, Gave) {
     }
 }
 
+/// The reads and writes that fail, the answers of four turns, and what was written.
+type Case = (
+    &'static [u64],
+    &'static [u64],
+    [(Took, Gave); 4],
+    &'static [u8],
+);
+
+const CASES: [Case; 4] = [
+    (
+        &[],
+        &[],
+        [
+            (Took::Got(3), Gave::Done),
+            (Took::Got(2), Gave::Done),
+            (Took::End, Gave::Done),
+            (Took::End, Gave::Done),
+        ],
+        b"hello",
+    ),
+    (
+        &[2],
+        &[],
+        [
+            (Took::Got(3), Gave::Done),
+            (Took::Failed, Gave::Done),
+            (Took::Got(2), Gave::Done),
+            (Took::End, Gave::Done),
+        ],
+        b"hello",
+    ),
+    (
+        &[1, 4],
+        &[1],
+        [
+            (Took::Failed, Gave::Done),
+            (Took::Got(3), Gave::Failed),
+            (Took::Got(2), Gave::Done),
+            (Took::Failed, Gave::Done),
+        ],
+        b"lo",
+    ),
+    (
+        &[0, 9],
+        &[2, 3],
+        [
+            (Took::Got(3), Gave::Done),
+            (Took::Got(2), Gave::Failed),
+            (Took::End, Gave::Done),
+            (Took::End, Gave::Done),
+        ],
+        b"hel",
+    ),
+];
+
 #[test]
 fn objects_in_memory_fail_at_their_listed_calls(rt: HostRuntime) -> Result<(), Fail> {
-    // The reads and writes that fail, the answers of four turns, and what was written.
-    let cases: [(&[u64], &[u64], [(Took, Gave); 4], &[u8]); 4] = [
-        (
-            &[],
-            &[],
-            [
-                (Took::Got(3), Gave::Done),
-                (Took::Got(2), Gave::Done),
-                (Took::End, Gave::Done),
-                (Took::End, Gave::Done),
-            ],
-            b"hello",
-        ),
-        (
-            &[2],
-            &[],
-            [
-                (Took::Got(3), Gave::Done),
-                (Took::Failed, Gave::Done),
-                (Took::Got(2), Gave::Done),
-                (Took::End, Gave::Done),
-            ],
-            b"hello",
-        ),
-        (
-            &[1, 4],
-            &[1],
-            [
-                (Took::Failed, Gave::Done),
-                (Took::Got(3), Gave::Failed),
-                (Took::Got(2), Gave::Done),
-                (Took::Failed, Gave::Done),
-            ],
-            b"lo",
-        ),
-        (
-            &[0, 9],
-            &[2, 3],
-            [
-                (Took::Got(3), Gave::Done),
-                (Took::Got(2), Gave::Failed),
-                (Took::End, Gave::Done),
-                (Took::End, Gave::Done),
-            ],
-            b"hel",
-        ),
-    ];
-    for (bad_reads, bad_writes, answers, written) in cases {
+    for (bad_reads, bad_writes, answers, written) in CASES {
         let mut source = MemorySource::new(rt.alloc(), b"hello", bad_reads)?;
         let mut sink = MemorySink::new(rt.alloc(), bad_writes)?;
         for answer in answers {

@@ -55,56 +55,57 @@ impl Write for FailingWriter {
     }
 }
 
+/// The read that fails, and the answers of five reads into three bytes.
+const READS: [(u64, [Took; 5]); 5] = [
+    (
+        0,
+        [Took::Got(3), Took::Got(2), Took::End, Took::End, Took::End],
+    ),
+    (
+        1,
+        [
+            Took::Failed,
+            Took::Got(3),
+            Took::Got(2),
+            Took::End,
+            Took::End,
+        ],
+    ),
+    (
+        2,
+        [
+            Took::Got(3),
+            Took::Failed,
+            Took::Got(2),
+            Took::End,
+            Took::End,
+        ],
+    ),
+    (
+        3,
+        [
+            Took::Got(3),
+            Took::Got(2),
+            Took::Failed,
+            Took::End,
+            Took::End,
+        ],
+    ),
+    (
+        4,
+        [
+            Took::Got(3),
+            Took::Got(2),
+            Took::End,
+            Took::Failed,
+            Took::End,
+        ],
+    ),
+];
+
 #[test]
 fn a_source_fails_where_its_reader_does(rt: HostRuntime) -> Result<(), Fail> {
-    // The read that fails, and the answers of five reads into three bytes.
-    let cases = [
-        (
-            0,
-            [Took::Got(3), Took::Got(2), Took::End, Took::End, Took::End],
-        ),
-        (
-            1,
-            [
-                Took::Failed,
-                Took::Got(3),
-                Took::Got(2),
-                Took::End,
-                Took::End,
-            ],
-        ),
-        (
-            2,
-            [
-                Took::Got(3),
-                Took::Failed,
-                Took::Got(2),
-                Took::End,
-                Took::End,
-            ],
-        ),
-        (
-            3,
-            [
-                Took::Got(3),
-                Took::Got(2),
-                Took::Failed,
-                Took::End,
-                Took::End,
-            ],
-        ),
-        (
-            4,
-            [
-                Took::Got(3),
-                Took::Got(2),
-                Took::End,
-                Took::Failed,
-                Took::End,
-            ],
-        ),
-    ];
-    for (bad_read, answers) in cases {
+    for (bad_read, answers) in READS {
         let mut source = StdSource::new(FailingReader {
             bytes: b"hello",
             reads: 0,
