@@ -17,3 +17,4 @@ pub mod ReadLaws
 pub mod OneFault
 pub mod RowLaws
 pub mod StoredLaws
+pub mod FieldLaws

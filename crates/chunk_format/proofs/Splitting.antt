@@ -19,11 +19,11 @@ unfolding u8_bytes
 first_byte [] some fits = absurd (omega arith)
 first_byte (b ∷ bytes) some fits = let same : b ≡ b % 256 = omega arith in ap (λ (n : ℕ). n ∷ bytes) same
 
-simple_first : (body more bytes : List ℕ) → length body < 2 ^ 31 → bytes ≡ entry_bytes (Simple body) ++ more → get_or bytes 0 0 < 128
+pub simple_first : (body more bytes : List ℕ) → length body < 2 ^ 31 → bytes ≡ entry_bytes (Simple body) ++ more → get_or bytes 0 0 < 128
 unfolding u32_bytes
 simple_first body more bytes fits e = let first = ap (λ (l : List ℕ). get_or l 0 0) e in omega arith
 
-batch_first : (c s r u : ℕ) (body more bytes : List ℕ) → IsEntry (Batch c s r u body) → bytes ≡ entry_bytes (Batch c s r u body) ++ more → 128 ≤ get_or bytes 0 0
+pub batch_first : (c s r u : ℕ) (body more bytes : List ℕ) → IsEntry (Batch c s r u body) → bytes ≡ entry_bytes (Batch c s r u body) ++ more → 128 ≤ get_or bytes 0 0
 unfolding u8_bytes
 batch_first c s r u body more bytes f e =
     let f0 = f.0 in

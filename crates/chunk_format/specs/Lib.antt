@@ -8,3 +8,4 @@ pub mod Named
 pub mod StoredChunks
 pub mod Faults
 pub mod Reads
+pub mod ChunkFields

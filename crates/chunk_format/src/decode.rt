@@ -33,7 +33,7 @@ pub enum ChunkError {
 }
 
 /// An entry of its own.
-fn own_entry(alloc: Global, parts: EntryParts<'_>) -> Result<Entry, AllocError>
+pub fn own_entry(alloc: Global, parts: EntryParts<'_>) -> Result<Entry, AllocError>
     ensures { IfOk result (λ entry. entry ≡ entry_of parts.entry) }
 {
     match parts {

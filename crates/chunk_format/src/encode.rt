@@ -58,7 +58,7 @@ fn put_lengths(out: &mut Octets, header: &Header) -> Result<(), AllocError>
 
 /// Writes the 48 bytes of a header.
 #[tactic(auto, unfolding(crate::specs::Chunks::header_bytes))]
-fn put_header(out: &mut Octets, header: &Header) -> Result<(), AllocError>
+pub fn put_header(out: &mut Octets, header: &Header) -> Result<(), AllocError>
     ensures { OnOk result (out.new ≡ out.old ++ header_bytes header.now) }
 {
     put_head(out, header)?;

@@ -33,3 +33,22 @@ FailsWith errors.Memory read = Unit {0}
 abbrev pub GivesAt : {X : Type 0} → Result X DecodeError → Spot → Result (X × Spot) DecodeFault → Type 0
 GivesAt (Ok x) new read = read ≡ Ok (x, new)
 GivesAt (Err e) new read = FailsWith e read
+
+-- The same of a whole body.
+abbrev pub Gives : {X : Type 0} → Result X DecodeError → Result X DecodeFault → Type 0
+Gives (Ok x) read = read ≡ Ok x
+Gives (Err e) read = FailsWith e read
+
+-- the call gave this value, or memory ran out
+abbrev pub GivesOr : {X : Type 0} → Result X DecodeError → X → Type 0
+GivesOr result x = Gives result (Ok x)
+
+-- the call gave this fault, or memory ran out
+abbrev pub RefusesOr : {X : Type 0} → Result X DecodeError → DecodeFault → Type 0
+RefusesOr result fault = Gives result (Err fault)
+
+-- the fault of a call, if it gave one
+abbrev pub IfFault : {X : Type 0} → Result X DecodeError → (DecodeFault → Type 0) → Type 0
+IfFault (Ok x) Holds = Unit {0}
+IfFault (Err (errors.Fault fault)) Holds = Holds fault
+IfFault (Err errors.Memory) Holds = Unit {0}

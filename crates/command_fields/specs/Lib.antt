@@ -1,3 +1,5 @@
 pub mod Faults
 pub mod Offsets
 pub mod Properties
+pub mod Tables
+pub mod Sizes

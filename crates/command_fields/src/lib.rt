@@ -2,12 +2,18 @@
 //! properties.
 #![tactic(auto)]
 
+mod end;
 mod fault;
 mod laws;
 mod offset;
 mod property;
+mod size;
+mod version;
 
+pub use end::ended;
 pub use fault::{DecodeError, DecodeFault};
 pub use laws::shared_fields_are_lawful;
 pub use offset::OffsetSpec;
 pub use property::Property;
+pub use size::{GREATEST_BODY, Measured, list_size, text_size};
+pub use version::read_version;

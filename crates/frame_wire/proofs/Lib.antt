@@ -6,3 +6,4 @@ pub mod Loop
 pub mod Numbers
 pub mod Steps
 pub mod Streams
+pub mod ViewLaws
