@@ -1,0 +1,6 @@
+pub mod FrontLaws
+pub mod LeftLaws
+pub mod ShownLaws
+pub mod PlaceLaws
+pub mod ViewLaws
+pub mod WalkLaws
