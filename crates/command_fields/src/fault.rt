@@ -21,7 +21,7 @@ pub enum DecodeFault {
     /// The length of a text or a blob is below -1, or the count of a list below 0.
     #[error("negative length, at {place}")]
     Negative { place: usize },
-    /// A byte that tells yes or no is neither 1 nor 0.
+    /// A byte that tells yes or no is neither 1 nor 0, or the header of a delivery is wrong.
     #[error("wrong flag, at {place}")]
     Flag { place: usize },
     /// The type of an offset specification is none of 0 to 5.

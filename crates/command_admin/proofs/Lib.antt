@@ -1,0 +1,3 @@
+pub mod AdminLaws
+pub mod FlagLaws
+pub mod Lengths

@@ -1,0 +1,149 @@
+//! Writes administrative commands.
+
+ghost use Rattle.std.specs.Prelude.{◌≡◌, ◌++◌, OnOk, IfOk};
+ghost use Rattle.command_fields.specs.Tables.{IsCommand, FitsIn};
+ghost use Rattle.command_admin.specs.Commands.{admin_table, admin_layout, key_of, fields_of, AdminSpells};
+
+use crate::command::AdminCommand;
+use crate::put::{
+    put_answer, put_blob_answer, put_close, put_items, put_metadata, put_named, put_numbers,
+    put_offset_answer, put_opaque, put_plain, put_reason, put_stream, put_super_stream, put_texts,
+    put_update,
+};
+use frame_wire::{Octets, put_u16, put_u32};
+use std::alloc::{AllocError, Global};
+
+/// The key of a command.
+fn code_of(command: &AdminCommand) -> u16
+    ensures { result ≡ (admin_layout (key_of command.now)).code }
+{
+    match command {
+        AdminCommand::Create { .. } => 0x000d,
+        AdminCommand::Delete { .. } => 0x000e,
+        AdminCommand::Metadata { .. } => 0x000f,
+        AdminCommand::MetadataAnswer { .. } => 0x800f,
+        AdminCommand::MetadataUpdate { .. } => 0x0010,
+        AdminCommand::PeerProperties { .. } => 0x0011,
+        AdminCommand::PeerAnswer { .. } => 0x8011,
+        AdminCommand::SaslHandshake { .. } => 0x0012,
+        AdminCommand::MechanismAnswer { .. } => 0x8012,
+        AdminCommand::SaslAuthenticate { .. } => 0x0013,
+        AdminCommand::SaslAnswer { .. } => 0x8013,
+        AdminCommand::Tune { .. } => 0x0014,
+        AdminCommand::TuneAnswer { .. } => 0x8014,
+        AdminCommand::OpenHost { .. } => 0x0015,
+        AdminCommand::HostAnswer { .. } => 0x8015,
+        AdminCommand::Close { .. } => 0x0016,
+        AdminCommand::Heartbeat => 0x0017,
+        AdminCommand::Route { .. } => 0x0018,
+        AdminCommand::RouteAnswer { .. } => 0x8018,
+        AdminCommand::Partitions { .. } => 0x0019,
+        AdminCommand::PartitionsAnswer { .. } => 0x8019,
+        AdminCommand::ConsumerUpdate { .. } => 0x001a,
+        AdminCommand::UpdateAnswer { .. } => 0x801a,
+        AdminCommand::ExchangeVersions { .. } => 0x001b,
+        AdminCommand::VersionsAnswer { .. } => 0x801b,
+        AdminCommand::StreamStats { .. } => 0x001c,
+        AdminCommand::StatsAnswer { .. } => 0x801c,
+        AdminCommand::CreateSuper { .. } => 0x001d,
+        AdminCommand::DeleteSuper { .. } => 0x001e,
+        AdminCommand::Plain { key, .. } => *key,
+    }
+}
+
+/// Adds the fields of a command. After an error some of them may stand there.
+fn put_fields(out: &mut Octets, command: &AdminCommand) -> Result<(), AllocError>
+    requires { IsCommand admin_table command.now }
+    ensures { OnOk result (out.new ≡ out.old ++ (admin_layout (key_of command.now)).format.spell (fields_of command.now)) }
+{
+    match command {
+        AdminCommand::Create {
+            corr,
+            stream,
+            properties,
+        } => put_stream(out, *corr, stream, properties),
+        AdminCommand::Delete { corr, stream } => put_named(out, *corr, stream),
+        AdminCommand::Metadata { corr, items } => put_items(out, *corr, items),
+        AdminCommand::MetadataAnswer {
+            corr,
+            brokers,
+            streams,
+        } => put_metadata(out, *corr, brokers, streams),
+        AdminCommand::MetadataUpdate { code, stream } => put_reason(out, *code, stream),
+        AdminCommand::PeerProperties { corr, properties } => put_items(out, *corr, properties),
+        AdminCommand::PeerAnswer {
+            corr,
+            code,
+            properties,
+        } => put_answer(out, *corr, *code, properties),
+        AdminCommand::SaslHandshake { corr } => put_u32(out, *corr),
+        AdminCommand::MechanismAnswer { corr, code, items } => put_answer(out, *corr, *code, items),
+        AdminCommand::SaslAuthenticate {
+            corr,
+            mechanism,
+            opaque,
+        } => put_opaque(out, *corr, mechanism, opaque),
+        AdminCommand::SaslAnswer {
+            corr,
+            code,
+            content,
+        } => put_blob_answer(out, *corr, *code, content),
+        AdminCommand::Tune {
+            frame_max,
+            heartbeat,
+        } => put_numbers(out, *frame_max, *heartbeat),
+        AdminCommand::TuneAnswer {
+            frame_max,
+            heartbeat,
+        } => put_numbers(out, *frame_max, *heartbeat),
+        AdminCommand::OpenHost { corr, virtual_host } => put_named(out, *corr, virtual_host),
+        AdminCommand::HostAnswer {
+            corr,
+            code,
+            properties,
+        } => put_answer(out, *corr, *code, properties),
+        AdminCommand::Close { corr, code, reason } => put_close(out, *corr, *code, reason),
+        AdminCommand::Heartbeat => Ok(()),
+        AdminCommand::Route {
+            corr,
+            routing_key,
+            super_stream,
+        } => put_texts(out, *corr, routing_key, super_stream),
+        AdminCommand::RouteAnswer { corr, code, items } => put_answer(out, *corr, *code, items),
+        AdminCommand::Partitions { corr, super_stream } => put_named(out, *corr, super_stream),
+        AdminCommand::PartitionsAnswer { corr, code, items } => put_answer(
+            out, *corr, *code, items,
+        ),
+        AdminCommand::ConsumerUpdate { corr, sub, active } => put_update(out, *corr, *sub, *active),
+        AdminCommand::UpdateAnswer {
+            corr,
+            code,
+            content,
+        } => put_offset_answer(out, *corr, *code, content),
+        AdminCommand::ExchangeVersions { corr, items } => put_items(out, *corr, items),
+        AdminCommand::VersionsAnswer { corr, code, items } => put_answer(out, *corr, *code, items),
+        AdminCommand::StreamStats { corr, stream } => put_named(out, *corr, stream),
+        AdminCommand::StatsAnswer { corr, code, items } => put_answer(out, *corr, *code, items),
+        AdminCommand::CreateSuper {
+            corr,
+            name,
+            partitions,
+            keys,
+            properties,
+        } => put_super_stream(out, *corr, name, partitions, keys, properties),
+        AdminCommand::DeleteSuper { corr, name } => put_named(out, *corr, name),
+        AdminCommand::Plain { corr, code, .. } => put_plain(out, *corr, *code),
+    }
+}
+
+/// The body of a command that `fits_admin`: its key, the version 1 and its fields.
+pub fn encode_admin(alloc: Global, command: &AdminCommand) -> Result<Octets, AllocError>
+    requires { FitsIn admin_table command.now }
+    ensures { IfOk result (λ body. AdminSpells command.now body) }
+{
+    let mut body = Octets::new(alloc);
+    put_u16(&mut body, code_of(command))?;
+    put_u16(&mut body, 1)?;
+    put_fields(&mut body, command)?;
+    Ok(body)
+}

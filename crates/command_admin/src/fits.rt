@@ -1,0 +1,122 @@
+//! Which commands have a spelling that a frame can hold.
+
+ghost use Rattle.std.specs.Prelude.{◌≡◌, ◌↔◌, IsTrue};
+ghost use Rattle.command_fields.specs.Sizes.{Measures};
+ghost use Rattle.command_fields.specs.Tables.{FitsIn};
+ghost use Rattle.command_admin.specs.Commands.{admin_table, admin_layout, key_of, fields_of};
+
+use crate::command::AdminCommand;
+use crate::key::is_plain;
+use crate::size::{
+    answer_size, blob_answer_size, close_size, items_size, metadata_size, named_size, number_size,
+    numbers_size, offset_answer_size, opaque_size, plain_size, reason_size, stream_size,
+    super_stream_size, texts_size, update_size,
+};
+use command_fields::GREATEST_BODY;
+
+/// Whether the key is one of the protocol's.
+fn is_known(command: &AdminCommand) -> bool
+    ensures { IsTrue result ↔ (admin_layout (key_of command.now)).Known }
+{
+    match command {
+        AdminCommand::Plain { key, .. } => is_plain(*key),
+        _ => true,
+    }
+}
+
+/// The length of the fields.
+fn fields_size(command: &AdminCommand) -> Option<u64>
+    ensures { Measures (admin_layout (key_of command.now)).format (fields_of command.now) result }
+{
+    match command {
+        AdminCommand::Create {
+            corr,
+            stream,
+            properties,
+        } => stream_size(*corr, stream, properties),
+        AdminCommand::Delete { corr, stream } => named_size(*corr, stream),
+        AdminCommand::Metadata { corr, items } => items_size(*corr, items),
+        AdminCommand::MetadataAnswer {
+            corr,
+            brokers,
+            streams,
+        } => metadata_size(*corr, brokers, streams),
+        AdminCommand::MetadataUpdate { code, stream } => reason_size(*code, stream),
+        AdminCommand::PeerProperties { corr, properties } => items_size(*corr, properties),
+        AdminCommand::PeerAnswer {
+            corr,
+            code,
+            properties,
+        } => answer_size(*corr, *code, properties),
+        AdminCommand::SaslHandshake { corr } => number_size(*corr),
+        AdminCommand::MechanismAnswer { corr, code, items } => answer_size(*corr, *code, items),
+        AdminCommand::SaslAuthenticate {
+            corr,
+            mechanism,
+            opaque,
+        } => opaque_size(*corr, mechanism, opaque),
+        AdminCommand::SaslAnswer {
+            corr,
+            code,
+            content,
+        } => blob_answer_size(*corr, *code, content),
+        AdminCommand::Tune {
+            frame_max,
+            heartbeat,
+        } => numbers_size(*frame_max, *heartbeat),
+        AdminCommand::TuneAnswer {
+            frame_max,
+            heartbeat,
+        } => numbers_size(*frame_max, *heartbeat),
+        AdminCommand::OpenHost { corr, virtual_host } => named_size(*corr, virtual_host),
+        AdminCommand::HostAnswer {
+            corr,
+            code,
+            properties,
+        } => answer_size(*corr, *code, properties),
+        AdminCommand::Close { corr, code, reason } => close_size(*corr, *code, reason),
+        AdminCommand::Heartbeat => Some(0),
+        AdminCommand::Route {
+            corr,
+            routing_key,
+            super_stream,
+        } => texts_size(*corr, routing_key, super_stream),
+        AdminCommand::RouteAnswer { corr, code, items } => answer_size(*corr, *code, items),
+        AdminCommand::Partitions { corr, super_stream } => named_size(*corr, super_stream),
+        AdminCommand::PartitionsAnswer { corr, code, items } => answer_size(*corr, *code, items),
+        AdminCommand::ConsumerUpdate { corr, sub, active } => update_size(*corr, *sub, *active),
+        AdminCommand::UpdateAnswer {
+            corr,
+            code,
+            content,
+        } => offset_answer_size(*corr, *code, content),
+        AdminCommand::ExchangeVersions { corr, items } => items_size(*corr, items),
+        AdminCommand::VersionsAnswer { corr, code, items } => answer_size(*corr, *code, items),
+        AdminCommand::StreamStats { corr, stream } => named_size(*corr, stream),
+        AdminCommand::StatsAnswer { corr, code, items } => answer_size(*corr, *code, items),
+        AdminCommand::CreateSuper {
+            corr,
+            name,
+            partitions,
+            keys,
+            properties,
+        } => super_stream_size(*corr, name, partitions, keys, properties),
+        AdminCommand::DeleteSuper { corr, name } => named_size(*corr, name),
+        AdminCommand::Plain { corr, code, .. } => plain_size(*corr, *code),
+    }
+}
+
+/// Whether a command has a spelling in a body of at most 4,294,967,295 bytes, so that `encode_admin` can write it. It has
+/// none exactly where a list has more than 2,147,483,647 items or a blob more than as many bytes, where `active` is
+/// above 1, where a `Plain` has another key than its own, or where the body is too long.
+pub fn fits_admin(command: &AdminCommand) -> bool
+    ensures { IsTrue result ↔ FitsIn admin_table command.now }
+{
+    if !is_known(command) {
+        return false;
+    }
+    match fields_size(command) {
+        None => false,
+        Some(size) => size <= GREATEST_BODY - 4,
+    }
+}

@@ -1,0 +1,303 @@
+//! Reads data commands.
+
+ghost use Rattle.std.specs.Prelude.{◌≡◌, IfOk};
+ghost use Rattle.command_fields.specs.Tables.{fields_at, command_at};
+ghost use Rattle.command_fields.specs.Faults.{GivesAt, Gives, GivesOr, RefusesOr, IfFault};
+ghost use Rattle.frame_wire.specs.Joins.{or_absent};
+ghost use Rattle.command_fields.specs.Tables.{last, list_of};
+ghost use Rattle.command_fields.specs.Properties.{property_field};
+ghost use Rattle.command_data.specs.Items.{delivered};
+ghost use Rattle.command_data.specs.Commands.{data_table, DataSpells, DataWrong};
+ghost use Rattle.command_data.specs.declared.key.DataKey.TheVariants as keys;
+ghost use Rattle.command_fields.specs.declared.fault.DecodeFault.{DecodeFault};
+
+use crate::command::DataCommand;
+use crate::key::{DataKey, key_of};
+use crate::shape::{read_id, read_number, read_two_texts};
+use chunk_format::{Header, HeaderFault, read_header};
+use command_fields::{DecodeError, DecodeFault, OffsetSpec, Property, ended, read_version};
+use frame_wire::{Item, Octets, Row, Scan, Text, read_list};
+use std::alloc::Global;
+
+#[tactic(auto, unfolding(command_fields::specs::Tables::fields_at))]
+fn declare_publisher(alloc: Global, scan: &mut Scan<'_>) -> Result<DataCommand, DecodeError>
+    ensures { GivesAt result scan.new (fields_at data_table keys.DeclarePublisher scan.old) }
+{
+    let corr = scan.u32()?;
+    let publisher = scan.u8()?;
+    let reference = Text::read(alloc, scan)?;
+    let stream = Text::read(alloc, scan)?;
+    ended(scan)?;
+    Ok(DataCommand::DeclarePublisher {
+        corr,
+        publisher,
+        reference,
+        stream,
+    })
+}
+
+#[tactic(auto, unfolding(command_fields::specs::Tables::fields_at))]
+fn publish(alloc: Global, scan: &mut Scan<'_>) -> Result<DataCommand, DecodeError>
+    ensures { GivesAt result scan.new (fields_at data_table keys.Publish scan.old) }
+{
+    let publisher = scan.u8()?;
+    let items = read_list(alloc, scan)?;
+    ended(scan)?;
+    Ok(DataCommand::Publish { publisher, items })
+}
+
+#[tactic(auto, unfolding(command_fields::specs::Tables::fields_at))]
+fn publish_confirm(alloc: Global, scan: &mut Scan<'_>) -> Result<DataCommand, DecodeError>
+    ensures { GivesAt result scan.new (fields_at data_table keys.PublishConfirm scan.old) }
+{
+    let publisher = scan.u8()?;
+    let items = read_list(alloc, scan)?;
+    ended(scan)?;
+    Ok(DataCommand::PublishConfirm { publisher, items })
+}
+
+#[tactic(auto, unfolding(command_fields::specs::Tables::fields_at))]
+fn publish_error(alloc: Global, scan: &mut Scan<'_>) -> Result<DataCommand, DecodeError>
+    ensures { GivesAt result scan.new (fields_at data_table keys.PublishError scan.old) }
+{
+    let publisher = scan.u8()?;
+    let items = read_list(alloc, scan)?;
+    ended(scan)?;
+    Ok(DataCommand::PublishError { publisher, items })
+}
+
+#[tactic(auto, unfolding(command_fields::specs::Tables::fields_at))]
+fn query_publisher_sequence(alloc: Global, scan: &mut Scan<'_>) -> Result<DataCommand, DecodeError>
+    ensures { GivesAt result scan.new (fields_at data_table keys.QueryPublisherSequence scan.old) }
+{
+    let (corr, (reference, stream)) = read_two_texts(alloc, scan)?;
+    Ok(DataCommand::QueryPublisherSequence {
+        corr,
+        reference,
+        stream,
+    })
+}
+
+#[tactic(auto, unfolding(command_fields::specs::Tables::fields_at))]
+fn sequence_answer(scan: &mut Scan<'_>) -> Result<DataCommand, DecodeError>
+    ensures { GivesAt result scan.new (fields_at data_table keys.SequenceAnswer scan.old) }
+{
+    let (corr, (code, content)) = read_number(scan)?;
+    Ok(DataCommand::SequenceAnswer {
+        corr,
+        code,
+        content,
+    })
+}
+
+#[tactic(auto, unfolding(command_fields::specs::Tables::fields_at))]
+fn delete_publisher(scan: &mut Scan<'_>) -> Result<DataCommand, DecodeError>
+    ensures { GivesAt result scan.new (fields_at data_table keys.DeletePublisher scan.old) }
+{
+    let (corr, publisher) = read_id(scan)?;
+    Ok(DataCommand::DeletePublisher { corr, publisher })
+}
+
+/// Properties to the body's end, absent where nothing is left.
+fn read_properties(alloc: Global, scan: &mut Scan<'_>) -> Result<Option<Row<Property>>, DecodeError>
+    ensures { GivesAt result scan.new ((or_absent (last (list_of property_field))).read scan.old) }
+{
+    if scan.rest().is_empty() {
+        return Ok(None);
+    }
+    let properties = read_list(alloc, scan)?;
+    ended(scan)?;
+    Ok(Some(properties))
+}
+
+#[tactic(auto, unfolding(command_fields::specs::Tables::fields_at))]
+fn subscribe(alloc: Global, scan: &mut Scan<'_>) -> Result<DataCommand, DecodeError>
+    ensures { GivesAt result scan.new (fields_at data_table keys.Subscribe scan.old) }
+{
+    let corr = scan.u32()?;
+    let sub = scan.u8()?;
+    let stream = Text::read(alloc, scan)?;
+    let spec = OffsetSpec::read(scan)?;
+    let credit = scan.u16()?;
+    let properties = read_properties(alloc, scan)?;
+    Ok(DataCommand::Subscribe {
+        corr,
+        sub,
+        stream,
+        spec,
+        credit,
+        properties,
+    })
+}
+
+/// The header of a delivery and its payload, to the body's end.
+fn read_delivered(alloc: Global, scan: &mut Scan<'_>) -> Result<(Header, Octets), DecodeError>
+    ensures { GivesAt result scan.new ((last delivered).read scan.old) }
+{
+    let header = match read_header(scan) {
+        Ok(header) => header,
+        Err(HeaderFault::NotWhole { place }) => {
+            return Err(DecodeError::Fault(DecodeFault::Short { place }));
+        }
+        Err(HeaderFault::Wrong { place }) => {
+            return Err(DecodeError::Fault(DecodeFault::Flag { place }));
+        }
+    };
+    let rest = scan.rest();
+    let len = header.payload_len as usize;
+    if rest.len() < len {
+        return Err(DecodeError::Fault(DecodeFault::Short {
+            place: scan.place(),
+        }));
+    }
+    let Ok(payload) = Octets::copy(alloc, &rest[..len]) else {
+        return Err(DecodeError::Memory);
+    };
+    scan.advance(len);
+    ended(scan)?;
+    Ok((header, payload))
+}
+
+#[tactic(auto, unfolding(command_fields::specs::Tables::fields_at))]
+fn deliver(alloc: Global, scan: &mut Scan<'_>) -> Result<DataCommand, DecodeError>
+    ensures { GivesAt result scan.new (fields_at data_table keys.Deliver scan.old) }
+{
+    let sub = scan.u8()?;
+    let (header, payload) = read_delivered(alloc, scan)?;
+    Ok(DataCommand::Deliver {
+        sub,
+        header,
+        payload,
+    })
+}
+
+#[tactic(auto, unfolding(command_fields::specs::Tables::fields_at))]
+fn credit(scan: &mut Scan<'_>) -> Result<DataCommand, DecodeError>
+    ensures { GivesAt result scan.new (fields_at data_table keys.Credit scan.old) }
+{
+    let sub = scan.u8()?;
+    let credit = scan.u16()?;
+    ended(scan)?;
+    Ok(DataCommand::Credit { sub, credit })
+}
+
+#[tactic(auto, unfolding(command_fields::specs::Tables::fields_at))]
+fn credit_fault(scan: &mut Scan<'_>) -> Result<DataCommand, DecodeError>
+    ensures { GivesAt result scan.new (fields_at data_table keys.CreditFault scan.old) }
+{
+    let code = scan.u16()?;
+    let sub = scan.u8()?;
+    ended(scan)?;
+    Ok(DataCommand::CreditFault { code, sub })
+}
+
+#[tactic(auto, unfolding(command_fields::specs::Tables::fields_at))]
+fn store_offset(alloc: Global, scan: &mut Scan<'_>) -> Result<DataCommand, DecodeError>
+    ensures { GivesAt result scan.new (fields_at data_table keys.StoreOffset scan.old) }
+{
+    let reference = Text::read(alloc, scan)?;
+    let stream = Text::read(alloc, scan)?;
+    let offset = scan.u64()?;
+    ended(scan)?;
+    Ok(DataCommand::StoreOffset {
+        reference,
+        stream,
+        offset,
+    })
+}
+
+#[tactic(auto, unfolding(command_fields::specs::Tables::fields_at))]
+fn query_offset(alloc: Global, scan: &mut Scan<'_>) -> Result<DataCommand, DecodeError>
+    ensures { GivesAt result scan.new (fields_at data_table keys.QueryOffset scan.old) }
+{
+    let (corr, (reference, stream)) = read_two_texts(alloc, scan)?;
+    Ok(DataCommand::QueryOffset {
+        corr,
+        reference,
+        stream,
+    })
+}
+
+#[tactic(auto, unfolding(command_fields::specs::Tables::fields_at))]
+fn offset_answer(scan: &mut Scan<'_>) -> Result<DataCommand, DecodeError>
+    ensures { GivesAt result scan.new (fields_at data_table keys.OffsetAnswer scan.old) }
+{
+    let (corr, (code, content)) = read_number(scan)?;
+    Ok(DataCommand::OffsetAnswer {
+        corr,
+        code,
+        content,
+    })
+}
+
+#[tactic(auto, unfolding(command_fields::specs::Tables::fields_at))]
+fn unsubscribe(scan: &mut Scan<'_>) -> Result<DataCommand, DecodeError>
+    ensures { GivesAt result scan.new (fields_at data_table keys.Unsubscribe scan.old) }
+{
+    let (corr, sub) = read_id(scan)?;
+    Ok(DataCommand::Unsubscribe { corr, sub })
+}
+
+#[tactic(auto, unfolding(command_fields::specs::Tables::fields_at))]
+fn plain(key: u16, scan: &mut Scan<'_>) -> Result<DataCommand, DecodeError>
+    ensures { GivesAt result scan.new (fields_at data_table (keys.Plain key) scan.old) }
+{
+    let corr = scan.u32()?;
+    let code = scan.u16()?;
+    ended(scan)?;
+    Ok(DataCommand::Plain { key, corr, code })
+}
+
+fn fields(alloc: Global, key: DataKey, scan: &mut Scan<'_>) -> Result<DataCommand, DecodeError>
+    ensures { GivesAt result scan.new (fields_at data_table key scan.old) }
+{
+    match key {
+        DataKey::DeclarePublisher => declare_publisher(alloc, scan),
+        DataKey::Publish => publish(alloc, scan),
+        DataKey::PublishConfirm => publish_confirm(alloc, scan),
+        DataKey::PublishError => publish_error(alloc, scan),
+        DataKey::QueryPublisherSequence => query_publisher_sequence(alloc, scan),
+        DataKey::SequenceAnswer => sequence_answer(scan),
+        DataKey::DeletePublisher => delete_publisher(scan),
+        DataKey::Subscribe => subscribe(alloc, scan),
+        DataKey::Deliver => deliver(alloc, scan),
+        DataKey::Credit => credit(scan),
+        DataKey::CreditFault => credit_fault(scan),
+        DataKey::StoreOffset => store_offset(alloc, scan),
+        DataKey::QueryOffset => query_offset(alloc, scan),
+        DataKey::OffsetAnswer => offset_answer(scan),
+        DataKey::Unsubscribe => unsubscribe(scan),
+        DataKey::Plain(key) => plain(key, scan),
+    }
+}
+
+/// Reads a body from its first byte to its last.
+fn read_body(alloc: Global, body: &[u8]) -> Result<DataCommand, DecodeError>
+    ensures { Gives result (command_at data_table body.now) }
+{
+    let mut scan = Scan::new(body);
+    let code = scan.u16()?;
+    let Some(key) = key_of(code) else {
+        return Err(DecodeError::Fault(DecodeFault::UnknownKey { place: 0 }));
+    };
+    read_version(&mut scan)?;
+    fields(alloc, key, &mut scan)
+}
+
+/// The command that a body spells, all of the body: two bytes of key, two of version, which is 1, and the fields. Else
+/// the first wrong field with its place in bytes: `UnknownKey` at 0, `Version` at 2, `Short`, `Negative`, `Flag` and
+/// `OffsetType` at the field's first byte, and `Long` at the first byte behind the last field. A list's count and each
+/// field of its items are fields of their own, and so are a delivery's 48 header bytes and its payload. `Flag` is a header
+/// with a wrong magic, version, kind or zero bytes. The checksum is not looked at. `Memory` comes where memory runs out.
+pub fn decode_data(alloc: Global, body: &[u8]) -> Result<DataCommand, DecodeError>
+    // What is read is spelled so.
+    ensures found { IfOk result (λ c. DataSpells c body.now) }
+    // What is spelled so is read, unless memory runs out.
+    ensures only { (c : DataCommand) → DataSpells c body.now → GivesOr result c }
+    // The fault is that of the first wrong field.
+    ensures told { IfFault result (DataWrong body.now) }
+    // Where a field is wrong first, that is the answer, unless memory runs out.
+    ensures refused { (fault : DecodeFault) → DataWrong body.now fault → RefusesOr result fault }
+{
+    read_body(alloc, body)
+}
