@@ -90,6 +90,29 @@ fn damaged(alloc: Global, bytes: &[u8], more: &[u8]) -> Option<u64> {
     }
 }
 
+// The size of the file after a put of (3, 4) behind what it holds.
+fn size_after_put(alloc: Global, bytes: &[u8]) -> Option<DiskSize> {
+    let mut disk = empty_disk(alloc);
+    if !lay(&mut disk, bytes, b"") {
+        return None;
+    }
+    let Ok(mut gated) = open(alloc, &mut disk) else {
+        return None;
+    };
+    let Ok(()) = put(&mut disk, &mut gated, 3, 4) else {
+        return None;
+    };
+    Some(disk.size(WORDS))
+}
+
+#[test]
+fn a_put_makes_the_file_longer(rt: HostRuntime) {
+    let whole = size_after_put(rt.alloc(), WHOLE);
+    assert!(rt; whole == Some(DiskSize::Size(42)));
+    let none = size_after_put(rt.alloc(), b"");
+    assert!(rt; none == Some(DiskSize::Size(25)));
+}
+
 #[test]
 fn gated_words_torn_and_damaged(rt: HostRuntime) {
     // A file, the bytes behind it, the pairs that opening finds, and the size that it leaves.

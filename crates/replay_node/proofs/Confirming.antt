@@ -1,13 +1,16 @@
 -- Each message that was given is confirmed in the end.
-use Rattle.std.proofs.Common.{◌≡◌, ℕ, ◌⊎◌, List, [], ◌∷◌, ◌++◌, length, map, Some, refl, sym, ap, subst, ◌∙◌, append_assoc, arith, inl, inr}
-use Rattle.replay_node.specs.declared.command.Tagged.{Tagged}
+use Rattle.std.proofs.Common.{◌≡◌, ◌==◌, Bool, true, false, cond, not, ℕ, ◌⊎◌, List, [], ◌∷◌, ◌++◌, length, map, eq-eqb, refl, sym, ap, subst, ◌∙◌, append_assoc, arith, inl, inr}
+use Rattle.replay_node.specs.declared.session.Offer.{Offer}
+use Rattle.command_data.specs.declared.command.DataCommand.TheVariants.{PublishError}
+use Rattle.replay_node.specs.Sessions.{refusals}
 use Rattle.replay_node.specs.declared.script.ScriptLine.{ScriptLine}
 use Rattle.replay_node.specs.declared.script.ScriptLine.TheVariants.{Create, Prepare, Give, Poll, Settle}
-use Rattle.replay_node.specs.Commands.{PublishesOne}
 use Rattle.replay_node.specs.Outputs.{Output}
-use Rattle.replay_node.specs.NodeState.{NodeState, new_node, LineGives, confirm_of}
+use Rattle.replay_node.specs.NodeState.{NodeState, new_node, LineGives, confirm_of, offers_of, offers_of_others, send}
+use Rattle.std.proofs.lemmas.Grind.{flat_map-append}
 use Rattle.replay_node.specs.Replays.{Answers}
-use Rattle.replay_node.specs.Complete.{IsIn, all_outputs, given_settled_polled, EachConfirmed}
+use Rattle.replay_node.specs.Complete.{IsIn, all_outputs, given_settled_polled, GivenBehind, EachConfirmed}
+use Rattle.replay_node.proofs.Commanding.{serve_own, serve_each}
 
 in_left : {X : Type 0} (x : X) (xs ys : List X) → IsIn x xs → IsIn x (xs ++ ys)
 in_left x [] ys h = absurd h
@@ -23,114 +26,113 @@ in_map f x [] h = absurd h
 in_map f x (y ∷ xs) (inl e) = inl (ap f e)
 in_map f x (y ∷ xs) (inr h) = inr (in_map f x xs h)
 
--- a message is not confirmed yet on its connection, or its confirm was written
-abbrev Owed : ℕ → Tagged → NodeState → List Output → Type 0
-Owed c m node written = IsIn m node.queued ⊎ (IsIn m node.unconfirmed ⊎ IsIn (confirm_of c m) written)
+-- a test picks it, or leaves it
+picked : (x o : Offer) (c : ℕ) (b : Bool) (mine : List Offer) → (o.connection == c) ≡ b → x.connection ≡ c → x ≡ o → IsIn x (cond b (o ∷ mine) mine)
+picked x o c true mine is own same = inl same
+picked x o c false mine is own same = let here : (o.connection == c) ≡ true = eq-eqb o.connection c (ap (λ (p : Offer). p.connection) (sym same) ∙ own) in absurd cc
+
+picked_more : (x o : Offer) (b : Bool) (mine : List Offer) → IsIn x mine → IsIn x (cond b (o ∷ mine) mine)
+picked_more x o true mine h = inr h
+picked_more x o false mine h = h
+
+in_picked : (x : Offer) (c : ℕ) (offers : List Offer) → x.connection ≡ c → IsIn x offers → IsIn x (offers_of c offers)
+in_picked x c [] own h = absurd h
+in_picked x c (o ∷ offers) own (inl same) = picked x o c (o.connection == c) (offers_of c offers) refl own same
+in_picked x c (o ∷ offers) own (inr h) = picked_more x o (o.connection == c) (offers_of c offers) (in_picked x c offers own h)
+
+picked_or_left : (x o : Offer) (b : Bool) (mine others : List Offer) → (x ≡ o) ⊎ (IsIn x mine ⊎ IsIn x others) → IsIn x (cond b (o ∷ mine) mine) ⊎ IsIn x (cond (not b) (o ∷ others) others)
+picked_or_left x o true mine others (inl same) = inl (inl same)
+picked_or_left x o true mine others (inr (inl h)) = inl (inr h)
+picked_or_left x o true mine others (inr (inr h)) = inr h
+picked_or_left x o false mine others (inl same) = inr (inl same)
+picked_or_left x o false mine others (inr (inl h)) = inl h
+picked_or_left x o false mine others (inr (inr h)) = inr (inr h)
+
+in_either : (x : Offer) (c : ℕ) (offers : List Offer) → IsIn x offers → IsIn x (offers_of c offers) ⊎ IsIn x (offers_of_others c offers)
+in_either x c [] h = absurd h
+in_either x c (o ∷ offers) (inl same) = picked_or_left x o (o.connection == c) (offers_of c offers) (offers_of_others c offers) (inl same)
+in_either x c (o ∷ offers) (inr h) = picked_or_left x o (o.connection == c) (offers_of c offers) (offers_of_others c offers) (inr (in_either x c offers h))
+
+-- an offer is not confirmed yet, or its confirm was written
+abbrev Owed : Offer → NodeState → List Output → Type 0
+Owed x node written = IsIn x node.queued ⊎ (IsIn x node.unconfirmed ⊎ IsIn (confirm_of x) written)
 
 -- it is committed, or its confirm was written
-abbrev Due : ℕ → Tagged → NodeState → List Output → Type 0
-Due c m node written = IsIn m node.unconfirmed ⊎ IsIn (confirm_of c m) written
+abbrev Due : Offer → NodeState → List Output → Type 0
+Due x node written = IsIn x node.unconfirmed ⊎ IsIn (confirm_of x) written
 
-confirm_in : (c d : ℕ) (m : Tagged) (node : NodeState) (outputs written : List Output) → node.connection ≡ Some c → node.connection ≡ Some d → outputs ≡ map (confirm_of d) node.unconfirmed → IsIn m node.unconfirmed
-    → IsIn (confirm_of c m) (written ++ outputs)
-confirm_in c d m node outputs written e f is h =
-    let same : c ≡ d = cc in
-    in_right (confirm_of c m) written outputs (subst (IsIn (confirm_of c m)) (sym is) (subst (λ (k : ℕ). IsIn (confirm_of k m) (map (confirm_of d) node.unconfirmed)) (sym same) (in_map (confirm_of d) m node.unconfirmed h)))
+due_same : (x : Offer) (old new : NodeState) (written outputs : List Output) → new.unconfirmed ≡ old.unconfirmed → Due x old written → Due x new (written ++ outputs)
+due_same x old new written outputs same (inl h) = inl (subst (IsIn x) (sym same) h)
+due_same x old new written outputs same (inr h) = inr (in_left (confirm_of x) written outputs h)
 
-due_more : (c : ℕ) (m : Tagged) (node : NodeState) (written outputs : List Output) → Due c m node written → Due c m node (written ++ outputs)
-due_more c m node written outputs (inl h) = inl h
-due_more c m node written outputs (inr h) = inr (in_left (confirm_of c m) written outputs h)
+owed_same : (x : Offer) (old new : NodeState) (written outputs : List Output) → new.queued ≡ old.queued → new.unconfirmed ≡ old.unconfirmed → Owed x old written → Owed x new (written ++ outputs)
+owed_same x old new written outputs queue same (inl h) = inl (subst (IsIn x) (sym queue) h)
+owed_same x old new written outputs queue same (inr h) = inr (due_same x old new written outputs same h)
 
-owed_more : (c : ℕ) (m : Tagged) (node : NodeState) (written outputs : List Output) → Owed c m node written → Owed c m node (written ++ outputs)
-owed_more c m node written outputs (inl h) = inl h
-owed_more c m node written outputs (inr h) = inr (due_more c m node written outputs h)
+due_polled : (x : Offer) (c : ℕ) (old new : NodeState) (written outputs : List Output) → outputs ≡ map confirm_of (offers_of c old.unconfirmed) → new.unconfirmed ≡ offers_of_others c old.unconfirmed → Due x old written → Due x new (written ++ outputs)
+due_polled x c old new written outputs is left (inr h) = inr (in_left (confirm_of x) written outputs h)
+due_polled x c old new written outputs is left (inl h) =
+    elim (in_either x c old.unconfirmed h) [
+      | inl mine ↦ inr (in_right (confirm_of x) written outputs (subst (IsIn (confirm_of x)) (sym is) (in_map confirm_of x (offers_of c old.unconfirmed) mine)))
+      | inr other ↦ inl (subst (IsIn x) (sym left) other)
+    ]
 
--- the connection stays
-connection_stays : (c : ℕ) (old new : NodeState) (line : ScriptLine) (outputs : List Output) → LineGives old line outputs new → old.connection ≡ Some c → new.connection ≡ Some c
-connection_stays c old new (Create name) outputs gives there = ap (λ (n : NodeState). n.connection) gives.2 ∙ there
-connection_stays c old new (Prepare connection name) outputs gives there = let none = gives.0 in absurd cc
-connection_stays c old new (Give connection bytes) outputs gives there = ap (λ (n : NodeState). n.connection) gives.4 ∙ there
-connection_stays c old new (Poll connection) outputs gives there = ap (λ (n : NodeState). n.connection) gives.2 ∙ there
-connection_stays c old new (Settle stream) outputs gives there = ap (λ (n : NodeState). n.connection) gives.4 ∙ there
+due_settled : (x : Offer) (old new : NodeState) (written outputs : List Output) → new.unconfirmed ≡ old.unconfirmed ++ old.queued → Owed x old written → Due x new (written ++ outputs)
+due_settled x old new written outputs is (inl h) = inl (subst (IsIn x) (sym is) (in_right x old.unconfirmed old.queued h))
+due_settled x old new written outputs is (inr (inl h)) = inl (subst (IsIn x) (sym is) (in_left x old.unconfirmed old.queued h))
+due_settled x old new written outputs is (inr (inr h)) = inr (in_left (confirm_of x) written outputs h)
 
-polled_due : (c d : ℕ) (m : Tagged) (old : NodeState) (outputs written : List Output) → old.connection ≡ Some c → old.connection ≡ Some d → outputs ≡ map (confirm_of d) old.unconfirmed → Due c m old written → IsIn (confirm_of c m) (written ++ outputs)
-polled_due c d m old outputs written there other is (inl h) = confirm_in c d m old outputs written there other is h
-polled_due c d m old outputs written there other is (inr h) = in_left (confirm_of c m) written outputs h
+due_line : (x : Offer) (old new : NodeState) (line : ScriptLine) (outputs written : List Output) → LineGives old line outputs new → Due x old written → Due x new (written ++ outputs)
+due_line x old new (Create name) outputs written gives h = due_same x old new written outputs (ap (λ (n : NodeState). n.unconfirmed) gives.2) h
+due_line x old new (Prepare connection name) outputs written gives h = due_same x old new written outputs (ap (λ (n : NodeState). n.unconfirmed) gives.6) h
+due_line x old new (Give connection bytes) outputs written gives h = due_same x old new written outputs (ap (λ (n : NodeState). n.unconfirmed) gives.is) h
+due_line x old new (Poll connection) outputs written gives h = due_polled x connection old new written outputs gives.1 (ap (λ (n : NodeState). n.unconfirmed) gives.2) h
+due_line x old new (Settle stream) outputs written gives h = due_settled x old new written outputs (ap (λ (n : NodeState). n.unconfirmed) gives.4) (inr h)
 
-settled_due : (c : ℕ) (m : Tagged) (old new : NodeState) (outputs written : List Output) → new.unconfirmed ≡ old.unconfirmed ++ old.queued → Owed c m old written → Due c m new (written ++ outputs)
-settled_due c m old new outputs written is (inl h) = inl (subst (IsIn m) (sym is) (in_right m old.unconfirmed old.queued h))
-settled_due c m old new outputs written is (inr (inl h)) = inl (subst (IsIn m) (sym is) (in_left m old.unconfirmed old.queued h))
-settled_due c m old new outputs written is (inr (inr h)) = inr (in_left (confirm_of c m) written outputs h)
+owed_polled : (x : Offer) (c : ℕ) (old new : NodeState) (written outputs : List Output) → new.queued ≡ old.queued → outputs ≡ map confirm_of (offers_of c old.unconfirmed) → new.unconfirmed ≡ offers_of_others c old.unconfirmed → Owed x old written
+    → Owed x new (written ++ outputs)
+owed_polled x c old new written outputs queue is left (inl h) = inl (subst (IsIn x) (sym queue) h)
+owed_polled x c old new written outputs queue is left (inr h) = inr (due_polled x c old new written outputs is left h)
 
-due_line : (c : ℕ) (m : Tagged) (old new : NodeState) (line : ScriptLine) (outputs written : List Output) → old.connection ≡ Some c → LineGives old line outputs new → Due c m old written → Due c m new (written ++ outputs)
-due_line c m old new (Create name) outputs written there gives h = subst (λ (n : NodeState). Due c m n (written ++ outputs)) (sym gives.2) (due_more c m old written outputs h)
-due_line c m old new (Prepare connection name) outputs written there gives h = let none = gives.0 in absurd cc
-due_line c m old new (Give connection bytes) outputs written there gives h = subst (λ (n : NodeState). Due c m n (written ++ outputs)) (sym gives.4) (due_more c m old written outputs h)
-due_line c m old new (Poll connection) outputs written there gives h = inr (polled_due c connection m old outputs written there gives.0 gives.1 h)
-due_line c m old new (Settle stream) outputs written there gives h =
-    settled_due c m old new outputs written (ap (λ (n : NodeState). n.unconfirmed) gives.4) (inr h)
+owed_given : (x : Offer) (more : List Offer) (old new : NodeState) (written outputs : List Output) → new.queued ≡ old.queued ++ more → new.unconfirmed ≡ old.unconfirmed → Owed x old written → Owed x new (written ++ outputs)
+owed_given x more old new written outputs queue same (inl h) = inl (subst (IsIn x) (sym queue) (in_left x old.queued more h))
+owed_given x more old new written outputs queue same (inr h) = inr (due_same x old new written outputs same h)
 
-taken_owed : (c : ℕ) (m other : Tagged) (old new : NodeState) (outputs written : List Output) → new.queued ≡ old.queued ++ other ∷ [] → new.unconfirmed ≡ old.unconfirmed → Owed c m old written → Owed c m new (written ++ outputs)
-taken_owed c m other old new outputs written is same (inl h) = inl (subst (IsIn m) (sym is) (in_left m old.queued (other ∷ []) h))
-taken_owed c m other old new outputs written is same (inr (inl h)) = inr (inl (subst (IsIn m) (sym same) h))
-taken_owed c m other old new outputs written is same (inr (inr h)) = inr (inr (in_left (confirm_of c m) written outputs h))
+owed_line : (x : Offer) (old new : NodeState) (line : ScriptLine) (outputs written : List Output) → LineGives old line outputs new → Owed x old written → Owed x new (written ++ outputs)
+owed_line x old new (Create name) outputs written gives h = owed_same x old new written outputs (ap (λ (n : NodeState). n.queued) gives.2) (ap (λ (n : NodeState). n.unconfirmed) gives.2) h
+owed_line x old new (Prepare connection name) outputs written gives h = owed_same x old new written outputs (ap (λ (n : NodeState). n.queued) gives.6) (ap (λ (n : NodeState). n.unconfirmed) gives.6) h
+owed_line x old new (Give connection bytes) outputs written gives h =
+    owed_given x gives.served.offers old new written outputs (ap (λ (n : NodeState). n.queued) gives.is) (ap (λ (n : NodeState). n.unconfirmed) gives.is) h
+owed_line x old new (Poll connection) outputs written gives h =
+    owed_polled x connection old new written outputs (ap (λ (n : NodeState). n.queued) gives.2) gives.1 (ap (λ (n : NodeState). n.unconfirmed) gives.2) h
+owed_line x old new (Settle stream) outputs written gives h = inr (due_settled x old new written outputs (ap (λ (n : NodeState). n.unconfirmed) gives.4) h)
 
-polled_owed : (c d : ℕ) (m : Tagged) (old new : NodeState) (outputs written : List Output) → new.queued ≡ old.queued → old.connection ≡ Some c → old.connection ≡ Some d → outputs ≡ map (confirm_of d) old.unconfirmed → Owed c m old written
-    → Owed c m new (written ++ outputs)
-polled_owed c d m old new outputs written same there other is (inl h) = inl (subst (IsIn m) (sym same) h)
-polled_owed c d m old new outputs written same there other is (inr h) = inr (inr (polled_due c d m old outputs written there other is h))
-
-owed_line : (c : ℕ) (m : Tagged) (old new : NodeState) (line : ScriptLine) (outputs written : List Output) → old.connection ≡ Some c → LineGives old line outputs new → Owed c m old written → Owed c m new (written ++ outputs)
-owed_line c m old new (Create name) outputs written there gives h = subst (λ (n : NodeState). Owed c m n (written ++ outputs)) (sym gives.2) (owed_more c m old written outputs h)
-owed_line c m old new (Prepare connection name) outputs written there gives h = let none = gives.0 in absurd cc
-owed_line c m old new (Give connection bytes) outputs written there gives h =
-    taken_owed c m gives.1 old new outputs written (ap (λ (n : NodeState). n.queued) gives.4) (ap (λ (n : NodeState). n.unconfirmed) gives.4) h
-owed_line c m old new (Poll connection) outputs written there gives h =
-    polled_owed c connection m old new outputs written (ap (λ (n : NodeState). n.queued) gives.2) there gives.0 gives.1 h
-owed_line c m old new (Settle stream) outputs written there gives h = inr (settled_due c m old new outputs written (ap (λ (n : NodeState). n.unconfirmed) gives.4) h)
+polled_due : (x : Offer) (old : NodeState) (outputs written : List Output) → outputs ≡ map confirm_of (offers_of x.connection old.unconfirmed) → Due x old written → IsIn (confirm_of x) (written ++ outputs)
+polled_due x old outputs written is (inl h) =
+    in_right (confirm_of x) written outputs (subst (IsIn (confirm_of x)) (sym is) (in_map confirm_of x (offers_of x.connection old.unconfirmed) (in_picked x x.connection old.unconfirmed refl h)))
+polled_due x old outputs written is (inr h) = in_left (confirm_of x) written outputs h
 
 -- it is in all that was written by then
 by_then : (x : Output) (written o rest : List Output) → IsIn x ((written ++ o) ++ rest) → IsIn x (written ++ (o ++ rest))
 by_then x written o rest h = subst (IsIn x) (append_assoc written o rest) h
 
-after_settle : (c : ℕ) (m : Tagged) (mid new : NodeState) (later : List ScriptLine) (outs : List (List Output)) (written : List Output) → mid.connection ≡ Some c → Due c m mid written → Answers mid (later ++ Poll c ∷ []) outs new
-    → IsIn (confirm_of c m) (written ++ all_outputs outs)
-after_settle c m mid new [] [] written there due answers = absurd answers
-after_settle c m mid new [] (o ∷ outs) written there due answers =
-    by_then (confirm_of c m) written o (all_outputs outs) (in_left (confirm_of c m) (written ++ o) (all_outputs outs) (polled_due c c m mid o written there answers.1.0 answers.1.1 due))
-after_settle c m mid new (line ∷ later) [] written there due answers = absurd answers
-after_settle c m mid new (line ∷ later) (o ∷ outs) written there due answers =
-    by_then (confirm_of c m) written o (all_outputs outs)
-    (after_settle c m answers.0 new later outs (written ++ o) (connection_stays c mid answers.0 line o answers.1 there) (due_line c m mid answers.0 line o written there answers.1 due) answers.2)
+after_settle : (x : Offer) (mid new : NodeState) (later : List ScriptLine) (outs : List (List Output)) (written : List Output) → Due x mid written → Answers mid (later ++ Poll x.connection ∷ []) outs new → IsIn (confirm_of x) (written ++ all_outputs outs)
+after_settle x mid new [] [] written due answers = absurd answers
+after_settle x mid new [] (o ∷ outs) written due answers =
+    by_then (confirm_of x) written o (all_outputs outs) (in_left (confirm_of x) (written ++ o) (all_outputs outs) (polled_due x mid o written answers.1.1 due))
+after_settle x mid new (line ∷ later) [] written due answers = absurd answers
+after_settle x mid new (line ∷ later) (o ∷ outs) written due answers =
+    by_then (confirm_of x) written o (all_outputs outs) (after_settle x answers.0 new later outs (written ++ o) (due_line x mid answers.0 line o written answers.1 due) answers.2)
 
-after_give : (c stream : ℕ) (m : Tagged) (mid new : NodeState) (between later : List ScriptLine) (outs : List (List Output)) (written : List Output) → mid.connection ≡ Some c → Owed c m mid written
-    → Answers mid (between ++ Settle stream ∷ (later ++ Poll c ∷ [])) outs new → IsIn (confirm_of c m) (written ++ all_outputs outs)
-after_give c stream m mid new [] later [] written there owed answers = absurd answers
-after_give c stream m mid new [] later (o ∷ outs) written there owed answers =
-    by_then (confirm_of c m) written o (all_outputs outs)
-    (after_settle c m answers.0 new later outs (written ++ o) (connection_stays c mid answers.0 (Settle stream) o answers.1 there)
-    (settled_due c m mid answers.0 o written (ap (λ (n : NodeState). n.unconfirmed) answers.1.4) owed) answers.2)
-after_give c stream m mid new (line ∷ between) later [] written there owed answers = absurd answers
-after_give c stream m mid new (line ∷ between) later (o ∷ outs) written there owed answers =
-    by_then (confirm_of c m) written o (all_outputs outs)
-    (after_give c stream m answers.0 new between later outs (written ++ o) (connection_stays c mid answers.0 line o answers.1 there) (owed_line c m mid answers.0 line o written there answers.1 owed) answers.2)
-
--- the message of a given frame is confirmed
-abbrev IsConfirmed : ℕ → List ℕ → List Output → Type 0
-IsConfirmed c bytes written = (m : Tagged) × PublishesOne bytes m × IsIn (confirm_of c m) written
-
-from_start : (c stream : ℕ) (bytes : List ℕ) (old new : NodeState) (before between later : List ScriptLine) (outs : List (List Output)) → Answers old (given_settled_polled before c bytes between stream later) outs new
-    → IsConfirmed c bytes (all_outputs outs)
-from_start c stream bytes old new [] between later [] answers = absurd answers
-from_start c stream bytes old new [] between later (o ∷ outs) answers =
-    let gives = answers.1 in
-    let m : Tagged = gives.1 in
-    let held : IsIn m answers.0.queued = subst (IsIn m) (sym (ap (λ (n : NodeState). n.queued) gives.4)) (in_right m old.queued (m ∷ []) (inl refl)) in
-    (m, gives.2, after_give c stream m answers.0 new between later outs o (connection_stays c old answers.0 (Give c bytes) o gives gives.0) (inl held) answers.2)
-from_start c stream bytes old new (line ∷ before) between later [] answers = absurd answers
-from_start c stream bytes old new (line ∷ before) between later (o ∷ outs) answers =
-    let rest = from_start c stream bytes answers.0 new before between later outs answers.2 in
-    (rest.0, rest.1, in_right (confirm_of c rest.0) o (all_outputs outs) rest.2)
+after_give : (stream : ℕ) (x : Offer) (mid new : NodeState) (between later : List ScriptLine) (outs : List (List Output)) (written : List Output) → Owed x mid written
+    → Answers mid (between ++ Settle stream ∷ (later ++ Poll x.connection ∷ [])) outs new → IsIn (confirm_of x) (written ++ all_outputs outs)
+after_give stream x mid new [] later [] written owed answers = absurd answers
+after_give stream x mid new [] later (o ∷ outs) written owed answers =
+    by_then (confirm_of x) written o (all_outputs outs)
+    (after_settle x answers.0 new later outs (written ++ o) (due_settled x mid answers.0 written o (ap (λ (n : NodeState). n.unconfirmed) answers.1.4) owed) answers.2)
+after_give stream x mid new (line ∷ between) later [] written owed answers = absurd answers
+after_give stream x mid new (line ∷ between) later (o ∷ outs) written owed answers =
+    by_then (confirm_of x) written o (all_outputs outs) (after_give stream x answers.0 new between later outs (written ++ o) (owed_line x mid answers.0 line o written answers.1 owed) answers.2)
 
 -- what lines and then others gave
 pub record IsSplit (old new : NodeState) (xs ys : List ScriptLine) (outs : List (List Output)) : Type 0 where
@@ -157,9 +159,50 @@ split old new (x ∷ xs) ys (o ∷ outs) answers =
       second = rest.second;
     }
 
+-- the first of some lines, and those behind it
+pub record IsHead (old new : NodeState) (line : ScriptLine) (lines : List ScriptLine) (outs : List (List Output)) : Type 0 where
+  pub first : List Output
+  pub more : List (List Output)
+  pub parts : outs ≡ first ∷ more
+  pub after : NodeState
+  pub gives : LineGives old line first after
+  pub rest : Answers after lines more new
+
+head_of : (old new : NodeState) (line : ScriptLine) (lines : List ScriptLine) (outs : List (List Output)) → Answers old (line ∷ lines) outs new → IsHead old new line lines outs
+head_of old new line lines [] answers = absurd answers
+head_of old new line lines (o ∷ outs) answers = record { first = o; more = outs; parts = refl; after = answers.0; gives = answers.1; rest = answers.2 }
+
+outputs_parts : (front : List (List Output)) (first : List Output) (more : List (List Output)) → all_outputs (front ++ first ∷ more) ≡ all_outputs front ++ (first ++ all_outputs more)
+outputs_parts front first more = flat_map-append (λ (o : List Output). o) front (first ∷ more)
+
 pub each_confirmed : (node : NodeState) (lines : List ScriptLine) (outs : List (List Output)) → Answers new_node lines outs node → EachConfirmed lines outs
 each_confirmed node lines outs answers before between later after c stream bytes e =
     let upto : List ScriptLine = given_settled_polled before c bytes between stream later in
+    let behind : List ScriptLine = between ++ Settle stream ∷ (later ++ Poll c ∷ []) in
     let parts = split new_node node upto after outs (subst (λ (l : List ScriptLine). Answers new_node l outs node) e answers) in
-    let confirmed = from_start c stream bytes new_node parts.mid before between later parts.front parts.first in
-    (confirmed.0, confirmed.1, parts.front, parts.back, parts.parts, parts.len, confirmed.2)
+    let halves = split new_node parts.mid before (Give c bytes ∷ behind) parts.front parts.first in
+    let step = head_of halves.mid parts.mid (Give c bytes) behind halves.back halves.second in
+    let whole : outs ≡ halves.front ++ step.first ∷ (step.more ++ parts.back) =
+    parts.parts ∙ ap (λ (l : List (List Output)). l ++ parts.back) (halves.parts ∙ ap (λ (l : List (List Output)). halves.front ++ l) step.parts) ∙ append_assoc halves.front (step.first ∷ step.more) parts.back in
+    let given : GivenBehind before c bytes outs = record { first = halves.front; node = halves.mid; run = halves.first; answers = step.first; after = step.after; gives = step.gives; more = step.more ++ parts.back; parts = whole } in
+    let written : all_outputs parts.front ≡ all_outputs halves.front ++ (step.first ++ all_outputs step.more) =
+    ap all_outputs (halves.parts ∙ ap (λ (l : List (List Output)). halves.front ++ l) step.parts) ∙ outputs_parts halves.front step.first step.more in
+    let each = λ (x : Offer) (taken : IsIn x step.gives.served.offers).
+    (let own : x.connection ≡ c = serve_own c step.gives.stream step.gives.link.publishers step.gives.commands step.gives.served step.gives.serves x taken in
+    let held : IsIn x step.after.queued = subst (IsIn x) (sym (ap (λ (n : NodeState). n.queued) step.gives.is)) (in_right x halves.mid.queued step.gives.served.offers taken) in
+    let rest : Answers step.after (between ++ Settle stream ∷ (later ++ Poll x.connection ∷ [])) step.more parts.mid =
+    subst (λ (n : ℕ). Answers step.after (between ++ Settle stream ∷ (later ++ Poll n ∷ [])) step.more parts.mid) (sym own) step.rest in
+    let confirmed : IsIn (confirm_of x) (step.first ++ all_outputs step.more) = after_give stream x step.after parts.mid between later step.more step.first (inl held) rest in
+    let all : IsIn (confirm_of x) (all_outputs parts.front) = subst (IsIn (confirm_of x)) (sym written) (in_right (confirm_of x) (all_outputs halves.front) (step.first ++ all_outputs step.more) confirmed) in
+    all) in (
+      parts.front,
+      parts.back,
+      parts.parts,
+      parts.len,
+      given,
+      λ publisher items read some.
+          elim (serve_each c step.gives.stream step.gives.link.publishers step.gives.commands step.gives.served step.gives.serves publisher items read some) [
+            | inl taken ↦ inl (each (record { connection = c; publisher = publisher; items = items }) taken)
+            | inr refused ↦ inr (subst (IsIn (send c (PublishError publisher (refusals items)))) (sym step.gives.written) (in_map (send c) (PublishError publisher (refusals items)) step.gives.served.answers refused))
+          ],
+    )

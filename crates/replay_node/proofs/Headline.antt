@@ -1,12 +1,13 @@
 -- A replay is a run of the list machine.
-use Rattle.std.proofs.Common.{◌≡◌, ◌≢◌, ℕ, ◌+◌, ◌^◌, ◌<◌, ◌≤◌, ◌⊎◌, List, [], ◌∷◌, ◌++◌, length, map, Option, refl, sym, ap, subst, ◌∙◌, append_assoc, length-append, arith, inl, inr}
+use Rattle.std.proofs.Common.{◌≡◌, ◌≢◌, ◌==◌, Bool, true, false, cond, ℕ, ◌+◌, ◌^◌, ◌<◌, ◌≤◌, ◌⊎◌, List, [], ◌∷◌, ◌++◌, length, map, Option, refl, sym, ap, subst, ◌∙◌, append_assoc, length-append, arith, inl, inr}
 use Rattle.std.specs.List.{flat_map, AllByRecursion}
 use Rattle.std.specs.Fmt.{decimal}
-use Rattle.std.proofs.lemmas.List.{append-nil, map-append}
+use Rattle.std.proofs.lemmas.List.{append-nil}
 use Rattle.std.proofs.lemmas.List.Elements.{All-nil}
 use Rattle.std.proofs.lemmas.Grind.{flat_map-append}
 use Rattle.chunk_format.specs.declared.chunk.Chunk.{Chunk}
-use Rattle.replay_node.specs.declared.command.Tagged.{Tagged}
+use Rattle.command_data.specs.declared.command.DataCommand.{DataCommand}
+use Rattle.replay_node.specs.declared.session.Offer.{Offer}
 use Rattle.replay_node.specs.declared.script.ScriptLine.{ScriptLine}
 use Rattle.replay_node.specs.declared.script.ScriptLine.TheVariants.{Create, Prepare, Give, Poll, Settle}
 use Rattle.replay_node.specs.declared.player.ReplayEnd.{ReplayEnd}
@@ -14,12 +15,13 @@ use Rattle.replay_node.specs.declared.player.ReplayEnd.TheVariants.{Done, Bad, R
 use Rattle.replay_node.specs.Words.{line_feed, Lacks}
 use Rattle.replay_node.specs.Script.{words_of, line_bytes, IsScriptLine}
 use Rattle.replay_node.specs.Outputs.{Output, output_bytes}
-use Rattle.replay_node.specs.NodeState.{NodeState, new_node, LineGives, commit_of, confirm_of, chunks_from, end_of_list, opening}
+use Rattle.replay_node.specs.NodeState.{NodeState, new_node, LineGives, commit_of, confirm_of, send, queued_chunks, offers_of, opening}
 use Rattle.replay_node.specs.Replays.{Answers, lines_bytes, outputs_bytes, all_bytes, Begins, Replays, Ends, IsWithin, IsNextGiven, end_line, bad_line}
 use Rattle.replay_node.specs.Machine.{Machine, empty_machine}
-use Rattle.replay_node.specs.MachineSteps.{Event, read, wrote, MachineRun}
-use Rattle.replay_node.specs.Transcripts.{read_bytes, wrote_bytes, IsTail, Transcript, Transcribed, line_events}
-use Rattle.replay_node.specs.Shown.{Shows, RunsTo}
+use Rattle.replay_node.specs.MachineSteps.{Event, read, wrote, handled, MachineRun}
+use Rattle.replay_node.specs.Transcripts.{read_bytes, wrote_bytes, IsTail, Transcript, Transcribed, Writes, LineEvents}
+use Rattle.replay_node.specs.Shown.{Shows, GivesRun}
+use Rattle.replay_node.proofs.Pending.{same_number}
 use Rattle.replay_node.proofs.Runs.{line_runs, new_shows}
 use Rattle.replay_node.proofs.Cutting.{HasNumber, IsOneLine, IsCut, cut_outputs, cut_line, number_lacks, lacks_more, OtherByte}
 
@@ -31,70 +33,95 @@ run_front : (a c : Machine) (xs ys : List Event) → MachineRun a (xs ++ ys) c �
 run_front a c [] ys p = (a, refl)
 run_front a c (x ∷ xs) ys p = let rest = run_front p.0 c xs ys p.2 in (rest.0, (p.0, p.1, rest.1))
 
--- the events of answered lines
-events_of : List ScriptLine → List (List Output) → List Event
-events_of [] outs = []
-events_of (line ∷ lines) [] = []
-events_of (line ∷ lines) (outputs ∷ outs) = line_events line outputs ++ events_of lines outs
+-- ---- the events of lines
 
--- a run, and the node shows its end
-abbrev Ran : Machine → List Event → NodeState → Type 0
-Ran machine events node = (new : Machine) × MachineRun machine events new × Shows node new
+no_reads : (events : List Event) (outputs : List Output) → Writes events outputs → flat_map read_bytes events ≡ []
+no_reads [] outputs w = refl
+no_reads (wrote o ∷ events) [] w = absurd w
+no_reads (wrote o ∷ events) (p ∷ outputs) w = no_reads events outputs w.1
+no_reads (handled c ∷ events) outputs w = no_reads events outputs w
+no_reads (read line ∷ events) outputs w = absurd w
 
-runs_all : (old new : NodeState) (lines : List ScriptLine) (outs : List (List Output)) (machine : Machine) → Shows old machine → Answers old lines outs new → Ran machine (events_of lines outs) new
-unfolding events_of
-runs_all old new [] [] machine shows answers = (machine, refl, subst (λ (n : NodeState). Shows n machine) (sym answers) shows)
+all_wrote : (events : List Event) (outputs : List Output) → Writes events outputs → flat_map wrote_bytes events ≡ outputs_bytes outputs
+all_wrote [] [] w = refl
+all_wrote [] (p ∷ outputs) w = absurd w
+all_wrote (wrote o ∷ events) [] w = absurd w
+all_wrote (wrote o ∷ events) (p ∷ outputs) w =
+    ap (λ (x : Output). output_bytes x ++ flat_map wrote_bytes events) w.0 ∙ ap (λ (l : List ℕ). output_bytes p ++ l) (all_wrote events outputs w.1)
+all_wrote (handled c ∷ events) outputs w = all_wrote events outputs w
+all_wrote (read line ∷ events) outputs w = absurd w
+
+line_reads : (line : ScriptLine) (outputs : List Output) (events : List Event) → LineEvents line outputs events → flat_map read_bytes events ≡ line_bytes line
+line_reads line outputs events e =
+    ap (flat_map read_bytes) e.is ∙ ap (λ (l : List ℕ). line_bytes line ++ l) (no_reads e.behind outputs e.writes) ∙ append-nil (line_bytes line)
+
+line_writes : (line : ScriptLine) (outputs : List Output) (events : List Event) → LineEvents line outputs events → flat_map wrote_bytes events ≡ outputs_bytes outputs
+line_writes line outputs events e = ap (flat_map wrote_bytes) e.is ∙ all_wrote e.behind outputs e.writes
+
+-- the events that write the first of some outputs
+split_writes : (events : List Event) (whole more : List Output) → Writes events (whole ++ more) → (front : List Event) × (back : List Event) × (events ≡ front ++ back) × Writes front whole
+split_writes events [] more w = ([], events, refl, tt)
+split_writes [] (p ∷ whole) more w = absurd w
+split_writes (wrote o ∷ events) (p ∷ whole) more w =
+    let rest = split_writes events whole more w.1 in
+    (wrote o ∷ rest.0, rest.1, ap (λ (l : List Event). wrote o ∷ l) rest.2, (w.0, rest.3))
+split_writes (handled c ∷ events) (p ∷ whole) more w =
+    let rest = split_writes events (p ∷ whole) more w in
+    (handled c ∷ rest.0, rest.1, ap (λ (l : List Event). handled c ∷ l) rest.2, rest.3)
+split_writes (read line ∷ events) (p ∷ whole) more w = absurd w
+
+-- a run of answered lines, and the node shows its end
+record Ran (machine : Machine) (lines : List ScriptLine) (outs : List (List Output)) (node : NodeState) : Type 0 where
+  events : List Event
+  end : Machine
+  run : MachineRun machine events end
+  shows : Shows node end
+  reads : flat_map read_bytes events ≡ lines_bytes lines
+  writes : flat_map wrote_bytes events ≡ all_bytes outs
+
+one_line_runs : (old new : NodeState) (line : ScriptLine) (outputs : List Output) (machine : Machine) → Shows old machine → LineGives old line outputs new → GivesRun machine line outputs new
+one_line_runs old new line outputs machine shows gives = subst (λ (m : Machine). GivesRun m line outputs new) (sym shows.is) (line_runs old new line outputs shows.confirmed shows.shown gives)
+
+runs_all : (old new : NodeState) (lines : List ScriptLine) (outs : List (List Output)) (machine : Machine) → Shows old machine → Answers old lines outs new → Ran machine lines outs new
+runs_all old new [] [] machine shows answers = record { events = []; end = machine; run = refl; shows = subst (λ (n : NodeState). Shows n machine) (sym answers) shows; reads = refl; writes = refl }
 runs_all old new [] (o ∷ outs) machine shows answers = absurd answers
 runs_all old new (line ∷ lines) [] machine shows answers = absurd answers
 runs_all old new (line ∷ lines) (outputs ∷ outs) machine shows answers =
-    let one : RunsTo machine (line_events line outputs) answers.0 = subst (λ (m : Machine). RunsTo m (line_events line outputs) answers.0) (sym shows.is) (line_runs old answers.0 line outputs shows.confirmed shows.shown answers.1) in
-    let rest = runs_all answers.0 new lines outs one.0 one.2 answers.2 in
-    (rest.0, run_append machine one.0 rest.0 (line_events line outputs) (events_of lines outs) one.1 rest.1, rest.2)
-
-no_reads : (outputs : List Output) → flat_map read_bytes (map wrote outputs) ≡ []
-no_reads [] = refl
-no_reads (o ∷ os) = no_reads os
-
-line_reads : (line : ScriptLine) (outputs : List Output) → flat_map read_bytes (line_events line outputs) ≡ line_bytes line
-line_reads line outputs = ap (λ (l : List ℕ). line_bytes line ++ l) (no_reads outputs) ∙ append-nil (line_bytes line)
-
-pub line_writes : (outputs : List Output) → flat_map wrote_bytes (map wrote outputs) ≡ outputs_bytes outputs
-line_writes [] = refl
-line_writes (o ∷ os) = ap (λ (l : List ℕ). output_bytes o ++ l) (line_writes os)
-
-all_reads : (old new : NodeState) (lines : List ScriptLine) (outs : List (List Output)) → Answers old lines outs new → flat_map read_bytes (events_of lines outs) ≡ lines_bytes lines
-unfolding events_of
-all_reads old new [] [] answers = refl
-all_reads old new [] (o ∷ outs) answers = absurd answers
-all_reads old new (line ∷ lines) [] answers = absurd answers
-all_reads old new (line ∷ lines) (outputs ∷ outs) answers =
-    flat_map-append read_bytes (line_events line outputs) (events_of lines outs) ∙ ap (λ (l : List ℕ). l ++ flat_map read_bytes (events_of lines outs)) (line_reads line outputs)
-    ∙ ap (λ (l : List ℕ). line_bytes line ++ l) (all_reads answers.0 new lines outs answers.2)
-
-all_writes : (old new : NodeState) (lines : List ScriptLine) (outs : List (List Output)) → Answers old lines outs new → flat_map wrote_bytes (events_of lines outs) ≡ all_bytes outs
-unfolding events_of
-all_writes old new [] [] answers = refl
-all_writes old new [] (o ∷ outs) answers = absurd answers
-all_writes old new (line ∷ lines) [] answers = absurd answers
-all_writes old new (line ∷ lines) (outputs ∷ outs) answers =
-    flat_map-append wrote_bytes (line_events line outputs) (events_of lines outs) ∙ ap (λ (l : List ℕ). l ++ flat_map wrote_bytes (events_of lines outs)) (line_writes outputs)
-    ∙ ap (λ (l : List ℕ). outputs_bytes outputs ++ l) (all_writes answers.0 new lines outs answers.2)
+    let one = one_line_runs old answers.0 line outputs machine shows answers.1 in
+    let ran = one.2 in
+    let rest = runs_all answers.0 new lines outs ran.0 ran.2 answers.2 in
+    record {
+      events = one.0 ++ rest.events;
+      end = rest.end;
+      run = run_append machine ran.0 rest.end one.0 rest.events ran.1 rest.run;
+      shows = rest.shows;
+      reads = flat_map-append read_bytes one.0 rest.events ∙ ap (λ (l : List ℕ). l ++ flat_map read_bytes rest.events) (line_reads line outputs one.0 one.1) ∙ ap (λ (l : List ℕ). line_bytes line ++ l) rest.reads;
+      writes = flat_map-append wrote_bytes one.0 rest.events ∙ ap (λ (l : List ℕ). l ++ flat_map wrote_bytes rest.events) (line_writes line outputs one.0 one.1) ∙ ap (λ (l : List ℕ). outputs_bytes outputs ++ l) rest.writes;
+    }
 
 -- the numbers of outputs fit
 commits_fit : (chunks : List Chunk) → AllByRecursion HasNumber (map commit_of chunks)
 commits_fit [] = tt
 commits_fit (c ∷ chunks) = (omega arith, commits_fit chunks)
 
-confirms_fit : (connection : ℕ) (messages : List Tagged) → connection < 2 ^ 64 → AllByRecursion HasNumber (map (confirm_of connection) messages)
+sends_fit : (connection : ℕ) (commands : List DataCommand) → connection < 2 ^ 64 → AllByRecursion HasNumber (map (send connection) commands)
+sends_fit connection [] fits = tt
+sends_fit connection (command ∷ commands) fits = (fits, sends_fit connection commands fits)
+
+confirms_by : (connection : ℕ) (o : Offer) (b : Bool) (offers : List Offer) → (o.connection == connection) ≡ b → connection < 2 ^ 64 → AllByRecursion HasNumber (map confirm_of offers) → AllByRecursion HasNumber (map confirm_of (cond b (o ∷ offers) offers))
+confirms_by connection o true offers is fits rest = (subst (λ (n : ℕ). n < 2 ^ 64) (sym (same_number o.connection connection is)) fits, rest)
+confirms_by connection o false offers is fits rest = rest
+
+confirms_fit : (connection : ℕ) (offers : List Offer) → connection < 2 ^ 64 → AllByRecursion HasNumber (map confirm_of (offers_of connection offers))
 confirms_fit connection [] fits = tt
-confirms_fit connection (m ∷ messages) fits = (fits, confirms_fit connection messages fits)
+confirms_fit connection (o ∷ offers) fits = confirms_by connection o (o.connection == connection) (offers_of connection offers) refl fits (confirms_fit connection offers fits)
 
 outputs_fit : (old new : NodeState) (line : ScriptLine) (outputs : List Output) → IsScriptLine line → LineGives old line outputs new → AllByRecursion HasNumber outputs
 outputs_fit old new (Create name) outputs valid gives = subst (AllByRecursion HasNumber) (sym gives.1) (commits_fit (opening ∷ []))
-outputs_fit old new (Prepare connection name) outputs valid gives = subst (AllByRecursion HasNumber) (sym gives.4) tt
-outputs_fit old new (Give connection bytes) outputs valid gives = subst (AllByRecursion HasNumber) (sym gives.3) tt
+outputs_fit old new (Prepare connection name) outputs valid gives = subst (AllByRecursion HasNumber) (sym gives.5) tt
+outputs_fit old new (Give connection bytes) outputs valid gives = subst (AllByRecursion HasNumber) (sym gives.written) (sends_fit connection gives.served.answers valid.words.0)
 outputs_fit old new (Poll connection) outputs valid gives = subst (AllByRecursion HasNumber) (sym gives.1) (confirms_fit connection old.unconfirmed valid.words)
-outputs_fit old new (Settle stream) outputs valid gives = subst (AllByRecursion HasNumber) (sym gives.3) (commits_fit (chunks_from (end_of_list old.chunks) old.queued))
+outputs_fit old new (Settle stream) outputs valid gives = subst (AllByRecursion HasNumber) (sym gives.3) (commits_fit (queued_chunks old))
 
 -- each line has a byte
 lines_count : (lines : List ScriptLine) → length lines ≤ length (lines_bytes lines)
@@ -131,14 +158,14 @@ plain : (node : NodeState) (lines : List ScriptLine) (outs : List (List Output))
 plain node lines outs taken rest given tail answers reads writes is_tail =
     let ran = runs_all new_node node lines outs empty_machine new_shows answers in
     record {
-      events = events_of lines outs;
-      machine = ran.0;
-      run = ran.1;
+      events = ran.events;
+      machine = ran.end;
+      run = ran.run;
       rest = rest;
       tail = tail;
       is_tail = is_tail;
-      reads = reads ∙ ap (λ (l : List ℕ). l ++ rest) (sym (all_reads new_node node lines outs answers));
-      writes = ap (λ (l : List ℕ). l ++ tail) (writes ∙ sym (all_writes new_node node lines outs answers));
+      reads = reads ∙ ap (λ (l : List ℕ). l ++ rest) (sym ran.reads);
+      writes = ap (λ (l : List ℕ). l ++ tail) (writes ∙ sym ran.writes);
     }
 
 -- the same, with the first lines that the next line gave
@@ -147,22 +174,22 @@ cut_short : (node : NodeState) (lines : List ScriptLine) (outs : List (List Outp
 cut_short node lines outs taken rest given tail next answers reads writes n begins =
     let ran = runs_all new_node node lines outs empty_machine new_shows answers in
     let cut : IsCut n.outputs tail = cut_outputs n.outputs tail (outputs_fit node n.after n.line n.outputs n.valid n.gives) (subst (Begins tail) n.is begins) in
-    let shows = ran.2 in
-    let one : RunsTo ran.0 (line_events n.line n.outputs) n.after = subst (λ (m : Machine). RunsTo m (line_events n.line n.outputs) n.after) (sym shows.is) (line_runs node n.after n.line n.outputs shows.confirmed shows.shown n.gives) in
-    let split : line_events n.line n.outputs ≡ line_events n.line cut.whole ++ map wrote cut.more =
-    ap (line_events n.line) cut.parts ∙ ap (λ (l : List Event). read n.line ∷ l) (map-append wrote cut.whole cut.more) in
-    let front = run_front ran.0 one.0 (line_events n.line cut.whole) (map wrote cut.more) (subst (λ (l : List Event). MachineRun ran.0 l one.0) split one.1) in
-    let events : List Event = events_of lines outs ++ line_events n.line cut.whole in
+    let one = one_line_runs node n.after n.line n.outputs ran.end ran.shows n.gives in
+    let halves = split_writes one.1.behind cut.whole cut.more (subst (Writes one.1.behind) cut.parts one.1.writes) in
+    let first : List Event = read n.line ∷ halves.0 in
+    let is_first : LineEvents n.line cut.whole first = record { behind = halves.0; is = refl; writes = halves.3 } in
+    let split : one.0 ≡ first ++ halves.1 = one.1.is ∙ ap (λ (l : List Event). read n.line ∷ l) halves.2 in
+    let whole = one.2 in
+    let front = run_front ran.end whole.0 first halves.1 (subst (λ (l : List Event). MachineRun ran.end l whole.0) split whole.1) in
+    let events : List Event = ran.events ++ first in
     let read_all : flat_map read_bytes events ≡ lines_bytes lines ++ line_bytes n.line =
-    flat_map-append read_bytes (events_of lines outs) (line_events n.line cut.whole) ∙ ap (λ (l : List ℕ). l ++ flat_map read_bytes (line_events n.line cut.whole)) (all_reads new_node node lines outs answers)
-    ∙ ap (λ (l : List ℕ). lines_bytes lines ++ l) (line_reads n.line cut.whole) in
+    flat_map-append read_bytes ran.events first ∙ ap (λ (l : List ℕ). l ++ flat_map read_bytes first) ran.reads ∙ ap (λ (l : List ℕ). lines_bytes lines ++ l) (line_reads n.line cut.whole first is_first) in
     let wrote_all : flat_map wrote_bytes events ≡ given ++ outputs_bytes cut.whole =
-    flat_map-append wrote_bytes (events_of lines outs) (line_events n.line cut.whole) ∙ ap (λ (l : List ℕ). l ++ flat_map wrote_bytes (line_events n.line cut.whole)) (all_writes new_node node lines outs answers ∙ sym writes)
-    ∙ ap (λ (l : List ℕ). given ++ l) (line_writes cut.whole) in
+    flat_map-append wrote_bytes ran.events first ∙ ap (λ (l : List ℕ). l ++ flat_map wrote_bytes first) (ran.writes ∙ sym writes) ∙ ap (λ (l : List ℕ). given ++ l) (line_writes n.line cut.whole first is_first) in
     record {
       events = events;
       machine = front.0;
-      run = run_append empty_machine ran.0 front.0 (events_of lines outs) (line_events n.line cut.whole) ran.1 front.1;
+      run = run_append empty_machine ran.end front.0 ran.events first ran.run front.1;
       rest = n.more;
       tail = cut.part;
       is_tail = inl cut.lacks;

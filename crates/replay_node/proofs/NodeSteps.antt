@@ -1,153 +1,129 @@
 -- What a node's fields stand for before and after a line.
-use Rattle.std.proofs.Common.{◌≡◌, ℕ, ◌+◌, ◌-◌, ◌≤◌, List, [], ◌∷◌, ◌++◌, length, take, drop, map, All, Option, Some, None, Ok, Bool, true, false, not, is_some, rules, refl, sym, ap, subst, ◌∙◌, arith}
-use Rattle.std.proofs.lemmas.List.{take-append-drop, length-take, take-append-le, drop-append-le, drop-take, take_rest}
-use Rattle.std.proofs.Math.ListN.{drop_of_length-le}
-use Rattle.std.proofs.Math.Seq.{take-length, drop-length}
-use Rattle.std.proofs.lemmas.List.Elements.{All-head, All-tail, All-append, All-take, All-from_recursion}
+use Rattle.std.proofs.Common.{◌≡◌, ◌==◌, ℕ, Bool, true, false, cond, not, is_some, List, [], ◌∷◌, ◌++◌, get_or, map, All, Option, Some, None, refl, sym, ap, subst, ◌∙◌}
+use Rattle.std.specs.Prelude.{IsSome, IsTrue, ◌↔◌, MatchOption}
+use Rattle.std.specs.List.{AllByRecursion}
+use Rattle.std.proofs.lemmas.List.Elements.{All-from_recursion, recursion_from_All, All-append}
 use Rattle.chunk_format.specs.declared.chunk.Chunk.{Chunk}
-use Rattle.chunk_format.specs.Chunks.{end_of_chunk, IsChunk}
-use Rattle.replay_node.specs.declared.command.Tagged.{Tagged}
-use Rattle.replay_node.specs.declared.script.ScriptLine.TheVariants.{Give, Poll, Settle}
-use Rattle.replay_node.specs.Commands.{IsTagged, IsMessage, PublishesOne}
-use Rattle.replay_node.specs.Outputs.{Output, output_lines}
-use Rattle.replay_node.specs.NodeState.{NodeState, opening, message_chunk, chunks_from, end_of_list, commit_of, confirm_of, LineGives, AnswersLine}
-use Rattle.replay_node.specs.NodeFields.{list_of, HasPlace}
-use Rattle.replay_node.proofs.Commits.{message_end}
+use Rattle.replay_node.specs.declared.node.Node.TheInside.{Inside}
+use Rattle.replay_node.specs.declared.session.Offer.{Offer}
+use Rattle.replay_node.specs.declared.session.Link.{Link}
+use Rattle.replay_node.specs.declared.output.Commits.{Commits}
+use Rattle.command_fields.specs.Tables.{FitsIn}
+use Rattle.command_data.specs.declared.command.DataCommand.{DataCommand}
+use Rattle.command_data.specs.Commands.{data_table}
+use Rattle.frame_commands.specs.Given.{CommandsOf}
+use Rattle.replay_node.specs.declared.session.Served.{Served}
+use Rattle.replay_node.specs.declared.script.ScriptLine.TheVariants.{Give}
+use Rattle.replay_node.specs.Commands.{frame_max}
+use Rattle.replay_node.specs.Sessions.{IsOffer, serve_all}
+use Rattle.replay_node.specs.Commits.{end_behind}
+use Rattle.replay_node.specs.NodeState.{NodeState, chunks_from, offer_pieces, end_of_list, queued_chunks, offers_of_others, find_link, put_link, send, GivesBytes, Refuses}
+use Rattle.replay_node.specs.NodeFields.{node_of, IsNode, IsPlace, CommitsQueue}
+use Rattle.replay_node.proofs.Laying.{end_of_all}
+use Rattle.replay_node.proofs.Commanding.{queue_pieces, one_reading, each_in_frame, all_fit}
+use Rattle.replay_node.proofs.Links.{place_is, place_finds}
 
--- what these fields stand for
-abbrev pub parts : Option (List ℕ) → Option ℕ → List Tagged → ℕ → ℕ → NodeState
-parts stream connection messages committed confirmed = record {
-  stream = stream;
-  connection = connection;
-  chunks = list_of stream (take committed messages);
-  queued = drop committed messages;
-  unconfirmed = drop confirmed (take committed messages);
-}
+abbrev pub node_with : Option (List ℕ) → List Link → List Chunk → List Offer → List Offer → NodeState
+node_with stream links chunks queued unconfirmed = record { stream = stream; links = links; chunks = chunks; queued = queued; unconfirmed = unconfirmed }
 
-ends : (c : Chunk) (first : ℕ) (messages : List Tagged) → end_of_chunk c ≡ first → All IsMessage messages → end_of_list (c ∷ chunks_from first messages) ≡ first + length messages
-ends c first [] e p = let z : first ≡ first + 0 = omega arith in e ∙ z
-ends c first (m ∷ ms) e p =
-    let one = message_end first m.entry (All-head IsMessage m ms p).1 in
-    let at : first + 1 + length ms ≡ first + length (m ∷ ms) = omega arith in
-    ends (message_chunk first m.entry) (first + 1) ms one (All-tail IsMessage m ms p) ∙ at
+pub commits_queue : (node : NodeState) (n : Inside) (commits : Commits) (offers : List Offer) → node_of n ≡ node → IsNode n → offers ≡ n.queued.items → commits.chunks.items ≡ chunks_from n.end (offer_pieces offers)
+    → commits.end ≡ end_behind n.end (offer_pieces offers) → CommitsQueue node commits
+commits_queue node n commits offers view is same chunks end =
+    let here : chunks_from n.end (offer_pieces offers) ≡ queued_chunks (node_of n) =
+    ap (λ (l : List Offer). chunks_from n.end (offer_pieces l)) same ∙ ap (λ (k : ℕ). chunks_from k (offer_pieces n.queued.items)) is.end in
+    let behind : end_behind n.end (offer_pieces offers) ≡ end_of_list (n.chunks.items ++ queued_chunks (node_of n)) =
+    ap (λ (l : List Offer). end_behind n.end (offer_pieces l)) same ∙ ap (λ (k : ℕ). end_behind k (offer_pieces n.queued.items)) is.end
+    ∙ sym (end_of_all n.chunks.items (offer_pieces n.queued.items) (queue_pieces n.queued.items (recursion_from_All IsOffer n.queued.items is.queued))) in
+    subst (λ (s : NodeState). CommitsQueue s commits) view (record { chunks = chunks ∙ here; end = end ∙ behind })
 
--- where the committed list ends
-pub list_end : (messages : List Tagged) → All IsMessage messages → end_of_list (opening ∷ chunks_from 1 messages) ≡ 1 + length messages
-list_end messages p = ends opening 1 messages refl p
+-- ---- connections
 
-pub chunks_append : (first : ℕ) (a b : List Tagged) → chunks_from first (a ++ b) ≡ chunks_from first a ++ chunks_from (first + length a) b
-chunks_append first [] b = let z : first ≡ first + 0 = omega arith in ap (λ (n : ℕ). chunks_from n b) z
-chunks_append first (m ∷ a) b =
-    let at : first + 1 + length a ≡ first + length (m ∷ a) = omega arith in
-    ap (λ (l : List Chunk). message_chunk first m.entry ∷ l) (chunks_append (first + 1) a b ∙ ap (λ (n : ℕ). chunks_from (first + 1) a ++ chunks_from n b) at)
+-- the connection at a place that was found
+pub link_there : (old : NodeState) (n : Inside) (one other : List Link) (k connection : ℕ) (x : Link) → node_of n ≡ old → one ≡ n.links.items → other ≡ n.links.items → IsPlace k connection one → x ≡ get_or other k x
+    → find_link connection old.links ≡ Some x
+link_there old n one other k connection x view first second place at =
+    let links : old.links ≡ one = sym (ap (λ (s : NodeState). s.links) view) ∙ sym first in
+    let here : x ≡ place.link = place_is k connection one x place (at ∙ ap (λ (l : List Link). get_or l k x) (second ∙ sym first)) in
+    ap (find_link connection) links ∙ place_finds k connection one place ∙ ap Some (sym here)
 
-pub settled : (name : List ℕ) (connection : Option ℕ) (messages : List Tagged) (committed confirmed : ℕ) → confirmed ≤ committed → committed ≤ length messages → All IsMessage messages → All IsChunk (chunks_from (1 + committed) (drop committed messages))
-    → LineGives (parts (Some name) connection messages committed confirmed) (Settle 1) (map commit_of (chunks_from (1 + committed) (drop committed messages)))
-    (parts (Some name) connection messages (length messages) confirmed)
-settled name connection messages committed confirmed le bound p spelled =
-    let old : NodeState = parts (Some name) connection messages committed confirmed in
-    let len : length (take committed messages) ≡ committed = omega (arith, length-take committed messages) in
-    let end : end_of_list old.chunks ≡ 1 + committed = list_end (take committed messages) (All-take IsMessage committed messages p) ∙ ap (λ (n : ℕ). 1 + n) len in
-    let joined : take committed messages ++ drop committed messages ≡ messages = take-append-drop committed messages in
-    let chunks : list_of (Some name) (take (length messages) messages) ≡ old.chunks ++ chunks_from (end_of_list old.chunks) old.queued =
-    ap (λ (l : List Tagged). opening ∷ chunks_from 1 l) (take-length messages ∙ sym joined)
-    ∙ ap (λ (l : List Chunk). opening ∷ l) (chunks_append 1 (take committed messages) (drop committed messages)
-    ∙ ap (λ (n : ℕ). chunks_from 1 (take committed messages) ++ chunks_from n (drop committed messages)) (ap (λ (n : ℕ). 1 + n) len ∙ sym end)) in
-    let queued : drop (length messages) messages ≡ [] = drop-length messages in
-    let unconfirmed : drop confirmed (take (length messages) messages) ≡ old.unconfirmed ++ old.queued =
-    ap (drop confirmed) (take-length messages ∙ sym joined) ∙ drop-append-le confirmed (take committed messages) (drop committed messages) (omega (arith, len)) in (
-      refl,
-      search rules,
-      subst (λ (n : ℕ). All IsChunk (chunks_from n old.queued)) (sym end) spelled,
-      ap (λ (n : ℕ). map commit_of (chunks_from n old.queued)) (sym end),
-      ap (λ (l : List Chunk). record { stream = Some name; connection = connection; chunks = l; queued = drop (length messages) messages; unconfirmed = drop confirmed (take (length messages) messages) }) chunks
-          ∙ ap (λ (l : List Tagged). record { stream = Some name; connection = connection; chunks = old.chunks ++ chunks_from (end_of_list old.chunks) old.queued; queued = l; unconfirmed = drop confirmed (take (length messages) messages) }) queued
-          ∙ ap (λ (l : List Tagged). record { stream = Some name; connection = connection; chunks = old.chunks ++ chunks_from (end_of_list old.chunks) old.queued; queued = []; unconfirmed = l }) unconfirmed,
-    )
+pub give_no_read : (old : NodeState) (connection : ℕ) (bytes held : List ℕ) (x : Link) → find_link connection old.links ≡ Some x → held ≡ x.rest
+    → ((commands : List DataCommand) (rest : List ℕ) → CommandsOf frame_max (held ++ bytes) commands rest → ⊥) → Refuses old (Give connection bytes)
+give_no_read old connection bytes held x there is none outputs new gives =
+    let same : gives.link ≡ x = let other = gives.is_there in cc in
+    none gives.commands gives.rest (subst (λ (l : List ℕ). CommandsOf frame_max (l ++ bytes) gives.commands gives.rest) (ap (λ (l : Link). l.rest) same ∙ sym is) gives.reads)
 
-pub polled : (stream : Option (List ℕ)) (connection : ℕ) (messages : List Tagged) (committed confirmed : ℕ) → committed ≤ length messages
-    → LineGives (parts stream (Some connection) messages committed confirmed) (Poll connection) (map (confirm_of connection) (drop confirmed (take committed messages)))
-    (parts stream (Some connection) messages committed committed)
-polled stream connection messages committed confirmed bound =
-    let none : drop committed (take committed messages) ≡ [] = drop_of_length-le (take committed messages) (omega (arith, length-take committed messages)) in
-    (refl, refl, ap (λ (l : List Tagged). record { stream = stream; connection = Some connection; chunks = list_of stream (take committed messages); queued = drop committed messages; unconfirmed = l }) none)
+pub give_no_serve : (old : NodeState) (connection : ℕ) (bytes stream : List ℕ) (x : Link) (commands : List DataCommand) (rest : List ℕ) → find_link connection old.links ≡ Some x → old.stream ≡ Some stream
+    → CommandsOf frame_max (x.rest ++ bytes) commands rest → serve_all connection stream x.publishers commands ≡ None → Refuses old (Give connection bytes)
+give_no_serve old connection bytes stream x commands rest there live reads none outputs new gives =
+    let same : gives.link ≡ x = let other = gives.is_there in cc in
+    let name : gives.stream ≡ stream = let other = gives.is_live in cc in
+    let read : CommandsOf frame_max (x.rest ++ bytes) gives.commands gives.rest = subst (λ (l : Link). CommandsOf frame_max (l.rest ++ bytes) gives.commands gives.rest) same gives.reads in
+    let all : gives.commands ≡ commands = (one_reading (x.rest ++ bytes) gives.commands commands gives.rest rest read reads).0 in
+    let serves : serve_all connection stream x.publishers commands ≡ Some gives.served =
+    ap (λ (s : List ℕ). serve_all connection s x.publishers commands) (sym name) ∙ ap (λ (l : Link). serve_all connection gives.stream l.publishers commands) (sym same)
+    ∙ ap (serve_all connection gives.stream gives.link.publishers) (sym all) ∙ gives.serves in
+    absurd cc
 
-pub given : (stream : Option (List ℕ)) (connection : ℕ) (bytes : List ℕ) (messages : List Tagged) (m : Tagged) (committed confirmed : ℕ) → committed ≤ length messages → PublishesOne bytes m
-    → LineGives (parts stream (Some connection) messages committed confirmed) (Give connection bytes) [] (parts stream (Some connection) (messages ++ m ∷ []) committed confirmed)
-given stream connection bytes messages m committed confirmed bound publishes =
-    let front : take committed (messages ++ m ∷ []) ≡ take committed messages = take-append-le committed messages (m ∷ []) bound in
-    let back : drop committed (messages ++ m ∷ []) ≡ drop committed messages ++ m ∷ [] = drop-append-le committed messages (m ∷ []) bound in (
-      refl,
-      m,
-      publishes,
-      refl,
-      ap (λ (l : List Tagged). record { stream = stream; connection = Some connection; chunks = list_of stream l; queued = drop committed (messages ++ m ∷ []); unconfirmed = drop confirmed l }) front
-          ∙ ap (λ (l : List Tagged). record { stream = stream; connection = Some connection; chunks = list_of stream (take committed messages); queued = l; unconfirmed = drop confirmed (take committed messages) }) back,
-    )
+pub gives_node : (old : NodeState) (n : Inside) (connection : ℕ) (bytes stream : List ℕ) (x : Link) (commands : List DataCommand) (rest : List ℕ) (served : Served) (links : List Link) (queued : List Offer) → node_of n ≡ old
+    → find_link connection old.links ≡ Some x → old.stream ≡ Some stream → CommandsOf frame_max (x.rest ++ bytes) commands rest → serve_all connection stream x.publishers commands ≡ Some served
+    → links ≡ put_link (record { number = connection; rest = rest; publishers = served.publishers }) n.links.items → queued ≡ n.queued.items ++ served.offers
+    → GivesBytes old connection bytes (map (send connection) served.answers) (record { stream = n.stream; links = links; chunks = n.chunks.items; queued = queued; unconfirmed = n.unconfirmed.items })
+gives_node old n connection bytes stream x commands rest served links queued view there live reads serves put more =
+    let same : record { stream = n.stream; links = links; chunks = n.chunks.items; queued = queued; unconfirmed = n.unconfirmed.items }
+    ≡ record (node_of n) { links = put_link (record { number = connection; rest = rest; publishers = served.publishers }) n.links.items; queued = n.queued.items ++ served.offers } =
+    ap (λ (l : List Link). node_with n.stream l n.chunks.items queued n.unconfirmed.items) put
+    ∙ ap (λ (q : List Offer). node_with n.stream (put_link (record { number = connection; rest = rest; publishers = served.publishers }) n.links.items) n.chunks.items q n.unconfirmed.items) more in
+    record {
+      stream = stream;
+      is_live = live;
+      link = x;
+      is_there = there;
+      commands = commands;
+      rest = rest;
+      reads = reads;
+      served = served;
+      serves = serves;
+      written = refl;
+      is = same ∙ ap (λ (s : NodeState). record s { links = put_link (record { number = connection; rest = rest; publishers = served.publishers }) s.links; queued = s.queued ++ served.offers }) view;
+    }
 
-pub place_more : (stream : Option (List ℕ)) (connection : Option ℕ) (number : ℕ) (messages more : List Tagged) → connection ≡ Some number → HasPlace stream connection messages → HasPlace stream connection more
-place_more None None number messages more e p = absurd cc
-place_more None (Some c) number messages more e p = absurd p
-place_more (Some name) None number messages more e p = absurd cc
-place_more (Some name) (Some c) number messages more e p = tt
+pub answers_fit : (stream : List ℕ) (name publishers : List ℕ) (connection : ℕ) (commands : List DataCommand) (rest : List ℕ) (served : Served) → CommandsOf frame_max stream commands rest → serve_all connection name publishers commands ≡ Some served
+    → All (FitsIn data_table) served.answers × All IsOffer served.offers
+answers_fit stream name publishers connection commands rest served reads serves =
+    let fit = all_fit connection name publishers commands served (each_in_frame stream commands rest reads) serves in
+    (All-from_recursion (FitsIn data_table) served.answers fit.answers, All-from_recursion IsOffer served.offers fit.offers)
 
--- the same, as answers
-pub settle_answer : (old : NodeState) (stream : Option (List ℕ)) (connection : Option ℕ) (number : ℕ) (messages : List Tagged) (committed confirmed size : ℕ) (lines : List (List ℕ))
-    → size ≡ length messages → parts stream connection messages committed confirmed ≡ old → number ≡ 1 → (stream ≡ None → ⊥) → confirmed ≤ committed → committed ≤ length messages → All IsMessage messages → All IsChunk (chunks_from (1 + committed) (drop committed messages))
-    → lines ≡ output_lines (map commit_of (chunks_from (1 + committed) (drop committed messages)))
-    → AnswersLine old (Settle number) (Ok lines) (parts stream connection messages size confirmed)
-settle_answer old None connection number messages committed confirmed size lines all is one some le bound p spelled e = absurd (some refl)
-settle_answer old (Some name) connection number messages committed confirmed size lines all is one some le bound p spelled e =
-    let new : NodeState = parts (Some name) connection messages (length messages) confirmed in
-    let outputs : List Output = map commit_of (chunks_from (1 + committed) (drop committed messages)) in
-    let gives : LineGives old (Settle number) outputs new =
-    subst (λ (o : NodeState). LineGives o (Settle number) outputs new) is
-    (subst (λ (n : ℕ). LineGives (parts (Some name) connection messages committed confirmed) (Settle n) outputs new) (sym one) (settled name connection messages committed confirmed le bound p spelled)) in
-    subst (λ (n : ℕ). AnswersLine old (Settle number) (Ok lines) (parts (Some name) connection messages n confirmed)) (sym all) (outputs, gives, e)
+pub queued_more : (old more new : List Offer) → new ≡ old ++ more → All IsOffer old → All IsOffer more → All IsOffer new
+queued_more old more new is p q = subst (All IsOffer) (sym is) (All-append IsOffer old more p q)
 
-pub poll_answer : (old : NodeState) (stream : Option (List ℕ)) (connection : Option ℕ) (number : ℕ) (messages : List Tagged) (committed confirmed : ℕ) (lines : List (List ℕ))
-    → parts stream connection messages committed confirmed ≡ old → old.connection ≡ Some number → committed ≤ length messages
-    → lines ≡ output_lines (map (confirm_of number) (drop confirmed (take committed messages)))
-    → AnswersLine old (Poll number) (Ok lines) (parts stream connection messages committed committed)
-poll_answer old stream connection number messages committed confirmed lines is connected bound e =
-    let same : connection ≡ Some number = ap (λ (o : NodeState). o.connection) is ∙ connected in
-    let outputs : List Output = map (confirm_of number) (drop confirmed (take committed messages)) in
-    let gives : LineGives (parts stream connection messages committed confirmed) (Poll number) outputs (parts stream connection messages committed committed) =
-    subst (λ (c : Option ℕ). LineGives (parts stream c messages committed confirmed) (Poll number) outputs (parts stream c messages committed committed)) (sym same)
-    (polled stream number messages committed confirmed bound) in
-    (outputs, subst (λ (o : NodeState). LineGives o (Poll number) outputs (parts stream connection messages committed committed)) is gives, e)
+kept : (b : Bool) (offer : Offer) (rest : List Offer) → IsOffer offer → AllByRecursion IsOffer rest → AllByRecursion IsOffer (cond b (offer ∷ rest) rest)
+kept true offer rest p q = (p, q)
+kept false offer rest p q = q
 
-pub give_answer : (old : NodeState) (stream : Option (List ℕ)) (connection : Option ℕ) (number : ℕ) (bytes : List ℕ) (messages more : List Tagged) (m : Tagged) (committed confirmed : ℕ)
-    → parts stream connection messages committed confirmed ≡ old → old.connection ≡ Some number → committed ≤ length messages → PublishesOne bytes m → more ≡ messages ++ m ∷ []
-    → AnswersLine old (Give number bytes) (Ok []) (parts stream connection more committed confirmed)
-give_answer old stream connection number bytes messages more m committed confirmed is connected bound publishes e =
-    let same : connection ≡ Some number = ap (λ (o : NodeState). o.connection) is ∙ connected in
-    let gives : LineGives (parts stream connection messages committed confirmed) (Give number bytes) [] (parts stream connection (messages ++ m ∷ []) committed confirmed) =
-    subst (λ (c : Option ℕ). LineGives (parts stream c messages committed confirmed) (Give number bytes) [] (parts stream c (messages ++ m ∷ []) committed confirmed)) (sym same)
-    (given stream number bytes messages m committed confirmed bound publishes) in (
-      [],
-      subst (λ (o : NodeState). LineGives o (Give number bytes) [] (parts stream connection more committed confirmed)) is
-          (subst (λ (l : List Tagged). LineGives (parts stream connection messages committed confirmed) (Give number bytes) [] (parts stream connection l committed confirmed)) (sym e) gives),
-      refl,
-    )
+others_by : (connection : ℕ) (offers : List Offer) → AllByRecursion IsOffer offers → AllByRecursion IsOffer (offers_of_others connection offers)
+others_by connection [] each = tt
+others_by connection (offer ∷ offers) each = kept (not (offer.connection == connection)) offer (offers_of_others connection offers) each.0 (others_by connection offers each.1)
 
-pub messages_more : (messages more : List Tagged) (m : Tagged) (bytes : List ℕ) → more ≡ messages ++ m ∷ [] → All IsMessage messages → PublishesOne bytes m → All IsMessage more
-messages_more messages more m bytes e p publishes =
-    let one : IsMessage m = (All-head IsTagged m [] publishes.publishes.items_fit, publishes.simple) in
-    subst (All IsMessage) (sym e) (All-append IsMessage messages (m ∷ []) p (All-from_recursion IsMessage (m ∷ []) (one, tt)))
+pub others_fit : (connection : ℕ) (offers new : List Offer) → new ≡ offers_of_others connection offers → All IsOffer offers → All IsOffer new
+others_fit connection offers new is each =
+    subst (All IsOffer) (sym is) (All-from_recursion IsOffer (offers_of_others connection offers) (others_by connection offers (recursion_from_All IsOffer offers each)))
 
--- what `is_none` told
-pub told_some : {X : Type 0} (o : Option X) (b : Bool) → is_some o ≡ not b → b ≡ false → o ≡ None → ⊥
-told_some None true is told e = absurd cc
-told_some None false is told e = absurd cc
-told_some (Some x) b is told e = absurd cc
+-- a place was found, or none
+pub place_told : (o : Option ℕ) (b : Bool) (n : ℕ) (links : List Link) → is_some o ≡ not b → b ≡ false → MatchOption o (find_link n links ≡ None) (λ k. IsPlace k n links) → IsSome (find_link n links)
+place_told None b n links told is place = absurd cc
+place_told (Some k) b n links told is place = subst (λ (o : Option Link). IsSome o) (sym (place_finds k n links place)) refl
 
--- the part of a list between two places
-pub between : (messages slice : List Tagged) (from to : ℕ) → slice ≡ messages → from ≤ to → take (to - from) (drop from slice) ≡ drop from (take to messages)
-between messages slice from to is le =
-    let at : from + (to - from) ≡ to = omega arith in
-    ap (λ (l : List Tagged). take (to - from) (drop from l)) is ∙ sym (drop-take from (to - from) messages) ∙ ap (λ (n : ℕ). drop from (take n messages)) at
+pub none_told : (o : Option ℕ) (b : Bool) (n : ℕ) (links : List Link) → is_some o ≡ not b → MatchOption o (find_link n links ≡ None) (λ k. IsPlace k n links) → IsTrue b ↔ (find_link n links ≡ None)
+none_told None true n links told place = (λ t. place, λ e. refl)
+none_told None false n links told place = absurd cc
+none_told (Some k) true n links told place = absurd cc
+none_told (Some k) false n links told place = (λ t. absurd cc, λ e. let other = place_finds k n links place in absurd cc)
 
--- the part of a list from a place on
-pub from_place : (messages slice : List Tagged) (from : ℕ) → slice ≡ messages → take (length slice - from) (drop from slice) ≡ drop from messages
-from_place messages slice from is = take_rest slice from ∙ ap (drop from) is
+pub polled_node : (old : NodeState) (n : Inside) (connection : ℕ) (unconfirmed : List Offer) → node_of n ≡ old → unconfirmed ≡ offers_of_others connection n.unconfirmed.items
+    → node_with n.stream n.links.items n.chunks.items n.queued.items unconfirmed ≡ record old { unconfirmed = offers_of_others connection old.unconfirmed }
+polled_node old n connection unconfirmed view is =
+    ap (node_with n.stream n.links.items n.chunks.items n.queued.items) is ∙ ap (λ (s : NodeState). record s { unconfirmed = offers_of_others connection s.unconfirmed }) view
+
+pub either_fit : (b : Bool) (xs ys zs : List Offer) → zs ≡ cond b xs ys → All IsOffer xs → All IsOffer ys → All IsOffer zs
+either_fit true xs ys zs is p q = subst (All IsOffer) (sym is) p
+either_fit false xs ys zs is p q = subst (All IsOffer) (sym is) q

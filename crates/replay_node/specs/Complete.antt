@@ -1,13 +1,14 @@
 -- What a replay owes: an end without an excuse, and a confirm for each message.
 use Rattle.std.specs.Prelude.{◌≡◌, ℕ, ◌≤◌, ◌⊎◌, List, [], ◌∷◌, ◌++◌, length, Option}
 use Rattle.std.specs.List.{flat_map}
-use Rattle.replay_node.specs.declared.command.Tagged.{Tagged}
 use Rattle.replay_node.specs.declared.script.ScriptLine.{ScriptLine}
 use Rattle.replay_node.specs.declared.script.ScriptLine.TheVariants.{Give, Poll, Settle}
 use Rattle.replay_node.specs.Words.{line_feed, Lacks}
-use Rattle.replay_node.specs.Commands.{PublishesOne}
+use Rattle.command_data.specs.declared.item.Tagged.{Tagged}
+use Rattle.command_data.specs.declared.command.DataCommand.TheVariants.{Publish, PublishError}
+use Rattle.replay_node.specs.Sessions.{refusals}
 use Rattle.replay_node.specs.Outputs.{Output}
-use Rattle.replay_node.specs.NodeState.{NodeState, new_node, confirm_of}
+use Rattle.replay_node.specs.NodeState.{NodeState, new_node, GivesBytes, confirm_of, send}
 use Rattle.replay_node.specs.Replays.{Answers, lines_bytes, IsBadNext, status_of, Replays}
 use Rattle.replay_node.specs.declared.player.ReplayEnd.{ReplayEnd}
 
@@ -26,19 +27,33 @@ IsIn x (y ∷ ys) = (x ≡ y) ⊎ IsIn x ys
 abbrev pub all_outputs : List (List Output) → List Output
 all_outputs outputs = flat_map (λ (o : List Output). o) outputs
 
--- lines in which a frame is given, then a stream is settled, then the frame's connection is polled
+-- lines in which bytes are given, then a stream is settled, then the connection is polled
 abbrev pub given_settled_polled : List ScriptLine → ℕ → List ℕ → List ScriptLine → ℕ → List ScriptLine → List ScriptLine
 given_settled_polled before connection bytes between stream later = before ++ Give connection bytes ∷ (between ++ Settle stream ∷ (later ++ Poll connection ∷ []))
 
--- Each message that was given before a line s has its confirm by the next line p of its connection.
+-- what lines before gave, and what a piece of bytes gave behind them
+pub record GivenBehind (before : List ScriptLine) (connection : ℕ) (bytes : List ℕ) (outputs : List (List Output)) : Type 0 where
+  pub first : List (List Output)
+  pub node : NodeState
+  pub run : Answers new_node before first node
+  pub answers : List Output
+  pub after : NodeState
+  pub gives : GivesBytes node connection bytes answers after
+  pub more : List (List Output)
+  pub parts : outputs ≡ first ++ answers ∷ more
+
+-- Each Publish frame with messages that a line c completed, and that came before a line s, has its confirm by the next
+-- line p of its connection, or its messages were refused at once.
 abbrev pub EachConfirmed : List ScriptLine → List (List Output) → Type 0
 EachConfirmed lines outputs =
     (before between later after : List ScriptLine) (connection stream : ℕ) (bytes : List ℕ)
     → lines ≡ given_settled_polled before connection bytes between stream later ++ after
-    → (message : Tagged) × PublishesOne bytes message
-    × (written more : List (List Output)) × (outputs ≡ written ++ more)
+    → (written more : List (List Output)) × (outputs ≡ written ++ more)
     × (length written ≡ length (given_settled_polled before connection bytes between stream later))
-    × IsIn (confirm_of connection message) (all_outputs written)
+    × (given : GivenBehind before connection bytes outputs)
+    × ((publisher : ℕ) (items : List Tagged) → IsIn (Publish publisher items) given.gives.commands → 1 ≤ length items
+    → IsIn (confirm_of (record { connection = connection; publisher = publisher; items = items })) (all_outputs written)
+    ⊎ IsIn (send connection (PublishError publisher (refusals items))) given.answers)
 
 -- What a replay answers: a status, by an end that holds of what was read and written, with each message confirmed.
 abbrev pub ReplaysAs : ℕ → Option (List ℕ) → Option (List ℕ) → Option (List ℕ) → Option (List ℕ) → Type 0

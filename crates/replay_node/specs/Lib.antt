@@ -1,10 +1,12 @@
 pub mod Words
 pub mod Script
 pub mod Commands
-pub mod Messages
+pub mod Rows
+pub mod Sessions
 pub mod Outputs
 pub mod NodeState
 pub mod NodeFields
+pub mod Commits
 pub mod Replays
 pub mod Plays
 pub mod Machine
@@ -13,3 +15,4 @@ pub mod Transcripts
 pub mod Shown
 pub mod Complete
 pub mod Examples
+pub mod Laws

@@ -6,7 +6,8 @@ use Rattle.chunk_format.specs.declared.entry.Entry.{Entry}
 use Rattle.chunk_format.specs.declared.entry.Entry.TheVariants.{Simple, Batch}
 use Rattle.chunk_format.specs.declared.chunk.Chunk.{Chunk}
 use Rattle.chunk_format.specs.LogRows.{LogRow, Rows, Tag}
-use Rattle.replay_node.specs.declared.command.Tagged.{Tagged}
+use Rattle.command_data.specs.declared.item.Tagged.{Tagged}
+use Rattle.command_data.specs.declared.command.DataCommand.{DataCommand}
 
 -- A live stream: its name, its list of chunks, the list as last seen, and the entries confirmed for publishers without a name.
 pub record StreamState : Type 0 where
@@ -23,9 +24,11 @@ pub record PublisherState : Type 0 where
   pub name : Option (List ℕ)
   pub unanswered : List (List Tagged)
 
--- A connection: the bytes that are no whole frame yet, and its publishers.
+-- A connection: the bytes that are no whole frame yet, the commands that were read and neither handled nor answered, and
+-- its publishers.
 pub record ConnectionState : Type 0 where
   pub rest : List ℕ
+  pub inbox : List DataCommand
   pub publishers : List PublisherState
 
 -- Streams and connections by number, and the last number that a stream was given.

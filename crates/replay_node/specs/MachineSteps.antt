@@ -1,12 +1,17 @@
 -- The steps of the list machine: what a line that is read does, and what a line that is written does.
-use Rattle.std.specs.Prelude.{◌≡◌, ℕ, ◌+◌, ◌≤◌, List, [], ◌∷◌, ◌++◌, map, Some, None}
-use Rattle.frame_wire.specs.Frames.{frame, Frames}
+use Rattle.std.specs.Prelude.{◌≡◌, ◌≢◌, ℕ, ◌+◌, ◌≤◌, ◌⊎◌, false, List, [], ◌∷◌, ◌++◌, length, map, Option, Some, None}
+use Rattle.frame_wire.specs.Frames.{frame}
 use Rattle.chunk_format.specs.declared.chunk.Chunk.{Chunk}
 use Rattle.chunk_format.specs.Chunks.{ChunkSpells}
-use Rattle.replay_node.specs.declared.command.Tagged.{Tagged}
+use Rattle.command_data.specs.declared.item.Tagged.{Tagged}
+use Rattle.command_data.specs.declared.command.DataCommand.{DataCommand}
+use Rattle.command_data.specs.declared.command.DataCommand.TheVariants.{DeclarePublisher, Publish, PublishError, Credit, CreditFault, Plain}
+use Rattle.command_data.specs.Commands.{DataSpells}
+use Rattle.frame_commands.specs.Given.{CommandsOf}
 use Rattle.replay_node.specs.declared.script.ScriptLine.{ScriptLine}
 use Rattle.replay_node.specs.declared.script.ScriptLine.TheVariants.{Create, Prepare, Give, Poll, Settle}
-use Rattle.replay_node.specs.Commands.{frame_max, SpellsPublish, SpellsConfirm}
+use Rattle.replay_node.specs.Commands.{frame_max, SpellsConfirm}
+use Rattle.replay_node.specs.Sessions.{is_declared, refusals}
 use Rattle.replay_node.specs.Outputs.{Output, committed, sent}
 use Rattle.replay_node.specs.NodeState.{end_of_list}
 use Rattle.replay_node.specs.Machine.{StreamState, PublisherState, ConnectionState, Machine, find, put, Counted, last_epoch}
@@ -20,32 +25,16 @@ new_stream name = record { name = name; chunks = []; seen = []; confirmed = [] }
 
 -- a connection with publisher 0 declared on a stream, without a name
 abbrev pub prepared : ℕ → ConnectionState
-prepared stream = record { rest = []; publishers = record { id = 0; stream = stream; name = None; unanswered = [] } ∷ [] }
+prepared stream = record { rest = []; inbox = []; publishers = record { id = 0; stream = stream; name = None; unanswered = [] } ∷ [] }
 
--- A frame that publishes some items is read of a declared publisher.
-pub record ReadsFrame (old : List PublisherState) (body : List ℕ) (new : List PublisherState) : Type 0 where
-  pub before : List PublisherState
-  pub publisher : PublisherState
-  pub after : List PublisherState
-  pub declared : old ≡ before ++ publisher ∷ after
-  pub items : List Tagged
-  pub publishes : SpellsPublish body publisher.id items
-  pub is : new ≡ before ++ record publisher { unanswered = publisher.unanswered ++ items ∷ [] } ∷ after
-
-abbrev pub ReadsFrames : List PublisherState → List (List ℕ) → List PublisherState → Type 0
-ReadsFrames old [] new = new ≡ old
-ReadsFrames old (body ∷ bodies) new = (mid : List PublisherState) × ReadsFrame old body mid × ReadsFrames mid bodies new
-
--- A piece of bytes is joined to its connection's bytes, and these are read as frames.
+-- A piece of bytes is joined to its connection's bytes, and these are read as frames of commands, which wait in its inbox.
 pub record GiveStep (old : Machine) (connection : ℕ) (piece : List ℕ) (new : Machine) : Type 0 where
   pub state : ConnectionState
   pub is_there : find connection old.connections ≡ Some state
-  pub bodies : List (List ℕ)
+  pub commands : List DataCommand
   pub rest : List ℕ
-  pub framed : Frames frame_max (state.rest ++ piece) bodies rest
-  pub publishers : List PublisherState
-  pub reads : ReadsFrames state.publishers bodies publishers
-  pub is : new ≡ record old { connections = put connection (record { rest = rest; publishers = publishers }) old.connections }
+  pub reads : CommandsOf frame_max (state.rest ++ piece) commands rest
+  pub is : new ≡ record old { connections = put connection (record state { rest = rest; inbox = state.inbox ++ commands }) old.connections }
 
 -- what a read line does
 abbrev pub ReadStep : Machine → ScriptLine → Machine → Type 0
@@ -97,19 +86,87 @@ pub record ConfirmStep (old : Machine) (connection : ℕ) (bytes : List ℕ) (ne
     connections = put connection (record state { publishers = before ++ record publisher { unanswered = earlier ++ later } ∷ after }) old.connections;
   }
 
--- what a written line does
+-- the ids of publishers
+abbrev pub publisher_ids : List PublisherState → List ℕ
+publisher_ids publishers = map (λ (publisher : PublisherState). publisher.id) publishers
+
+-- Handling a command that is owed no answer: a Publish with no items does nothing, and another one of a declared
+-- publisher waits for its confirm.
+abbrev pub Handles : List PublisherState → DataCommand → List PublisherState → Type 0
+Handles old (Publish id []) new = new ≡ old
+Handles old (Publish id (item ∷ items)) new =
+    (before : List PublisherState) × (publisher : PublisherState) × (after : List PublisherState)
+    × (old ≡ before ++ publisher ∷ after) × (publisher.id ≡ id)
+    × (new ≡ before ++ record publisher { unanswered = publisher.unanswered ++ (item ∷ items) ∷ [] } ∷ after)
+Handles old other new = ⊥
+
+-- the inbox's first command is handled
+pub record HandleStep (old : Machine) (connection : ℕ) (new : Machine) : Type 0 where
+  pub state : ConnectionState
+  pub is_there : find connection old.connections ≡ Some state
+  pub command : DataCommand
+  pub later : List DataCommand
+  pub first : state.inbox ≡ command ∷ later
+  pub publishers : List PublisherState
+  pub handles : Handles state.publishers command publishers
+  pub is : new ≡ record old { connections = put connection (record state { inbox = later; publishers = publishers }) old.connections }
+
+-- a null or empty reference is no name
+abbrev pub name_of : Option (List ℕ) → Option (List ℕ)
+name_of None = None
+name_of (Some []) = None
+name_of (Some (byte ∷ bytes)) = Some (byte ∷ bytes)
+
+-- A declaration was answered by code 1, and the publisher is declared on the live stream of that name; the id was not
+-- declared on its connection. Or it was answered by another code, and is not.
+abbrev pub Declares : Machine → List PublisherState → ℕ → Option (List ℕ) → Option (List ℕ) → ℕ → List PublisherState → Type 0
+Declares machine old id reference name code new =
+    ((code ≡ 1) × (is_declared id (publisher_ids old) ≡ false)
+    × (number : ℕ) × (stream : StreamState) × (find number machine.streams ≡ Some stream) × (name ≡ Some stream.name)
+    × (new ≡ old ++ record { id = id; stream = number; name = name_of reference; unanswered = [] } ∷ []))
+    ⊎ ((code ≢ 1) × (new ≡ old))
+
+-- What may answer a command, and the publishers behind the answer.
+abbrev pub Answers : Machine → List PublisherState → DataCommand → DataCommand → List PublisherState → Type 0
+-- a declaration is answered by its code
+Answers machine old (DeclarePublisher corr id reference name) (Plain key other code) new = (key ≡ 0x8001) × (other ≡ corr) × Declares machine old id reference name code new
+-- each message of an undeclared publisher is refused, in order
+Answers machine old (Publish id items) (PublishError other refused) new =
+    (other ≡ id) × (is_declared id (publisher_ids old) ≡ false) × (1 ≤ length items) × (refused ≡ refusals items) × (new ≡ old)
+-- there is no subscription
+Answers machine old (Credit sub credit) (CreditFault code other) new = (code ≡ 0x04) × (other ≡ sub) × (new ≡ old)
+Answers machine old command answer new = ⊥
+
+-- Answer: the frame is the answer of the inbox's first command.
+pub record AnswerStep (old : Machine) (connection : ℕ) (bytes : List ℕ) (new : Machine) : Type 0 where
+  pub state : ConnectionState
+  pub is_there : find connection old.connections ≡ Some state
+  pub command : DataCommand
+  pub later : List DataCommand
+  pub first : state.inbox ≡ command ∷ later
+  pub body : List ℕ
+  pub framed : bytes ≡ frame body
+  pub answer : DataCommand
+  pub spells : DataSpells answer body
+  pub publishers : List PublisherState
+  pub answers : Answers old state.publishers command answer publishers
+  pub is : new ≡ record old { connections = put connection (record state { inbox = later; publishers = publishers }) old.connections }
+
+-- what a written line does: a chunk is committed, or a frame that is sent confirms or answers
 abbrev pub WriteStep : Machine → Output → Machine → Type 0
 WriteStep old (committed stream chunk) new = CommitStep old stream chunk new
-WriteStep old (sent connection frame) new = ConfirmStep old connection frame new
+WriteStep old (sent connection frame) new = ConfirmStep old connection frame new ⊎ AnswerStep old connection frame new
 
--- a line that was read, or one that was written
+-- a line that was read, one that was written, or a command of a connection that was handled
 pub data Event : Type 0 where
   read : ScriptLine → Event
   wrote : Output → Event
+  handled : ℕ → Event
 
 abbrev pub MachineStep : Machine → Event → Machine → Type 0
 MachineStep old (read line) new = ReadStep old line new
 MachineStep old (wrote output) new = WriteStep old output new
+MachineStep old (handled connection) new = HandleStep old connection new
 
 -- events one after the other
 abbrev pub MachineRun : Machine → List Event → Machine → Type 0

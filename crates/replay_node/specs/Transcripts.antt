@@ -1,5 +1,5 @@
 -- What was read and what was written, in order.
-use Rattle.std.specs.Prelude.{◌≡◌, ℕ, ◌⊎◌, List, [], ◌∷◌, ◌++◌, map, Option}
+use Rattle.std.specs.Prelude.{◌≡◌, ℕ, ◌⊎◌, List, [], ◌∷◌, ◌++◌, Option}
 use Rattle.std.specs.List.{flat_map}
 use Rattle.outside_io.specs.Known.{before_known, after_known}
 use Rattle.replay_node.specs.declared.script.ScriptLine.{ScriptLine}
@@ -8,17 +8,19 @@ use Rattle.replay_node.specs.Script.{line_bytes}
 use Rattle.replay_node.specs.Outputs.{Output, output_bytes}
 use Rattle.replay_node.specs.Replays.{end_line, bad_line}
 use Rattle.replay_node.specs.Machine.{Machine, empty_machine}
-use Rattle.replay_node.specs.MachineSteps.{Event, read, wrote, MachineRun}
+use Rattle.replay_node.specs.MachineSteps.{Event, read, wrote, handled, MachineRun}
 
 -- the bytes of the lines read
 abbrev pub read_bytes : Event → List ℕ
 read_bytes (read line) = line_bytes line
 read_bytes (wrote output) = []
+read_bytes (handled connection) = []
 
 -- the bytes of the lines written
 abbrev pub wrote_bytes : Event → List ℕ
 wrote_bytes (read line) = []
 wrote_bytes (wrote output) = output_bytes output
+wrote_bytes (handled connection) = []
 
 -- what may stand behind the lines of a run: the last line, or a line that is not whole
 abbrev pub IsTail : List ℕ → Type 0
@@ -44,6 +46,17 @@ pub record Transcribed (left_old left_new written_old written_new : Option (List
   pub gave : written_new ≡ after_known written_old given
   pub transcript : Transcript taken given
 
+-- these outputs are written, in order, and between them commands may be handled
+abbrev pub Writes : List Event → List Output → Type 0
+Writes [] [] = Unit {0}
+Writes [] (output ∷ outputs) = ⊥
+Writes (wrote output ∷ events) [] = ⊥
+Writes (wrote output ∷ events) (next ∷ outputs) = (output ≡ next) × Writes events outputs
+Writes (handled connection ∷ events) outputs = Writes events outputs
+Writes (read line ∷ events) outputs = ⊥
+
 -- the events of one line
-abbrev pub line_events : ScriptLine → List Output → List Event
-line_events line outputs = read line ∷ map wrote outputs
+pub record LineEvents (line : ScriptLine) (outputs : List Output) (events : List Event) : Type 0 where
+  pub behind : List Event
+  pub is : events ≡ read line ∷ behind
+  pub writes : Writes behind outputs

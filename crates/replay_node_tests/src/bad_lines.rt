@@ -6,7 +6,7 @@ use std::process::Abort;
 use std::test::Fail;
 
 /// Lines after `n s`, and the number of the bad one.
-const AFTER_THE_FIRST: [(&str, u64); 52] = [
+const AFTER_THE_FIRST: [(&str, u64); 50] = [
     // a second stream
     ("n s\n", 2),
     ("n other\n", 2),
@@ -26,9 +26,6 @@ const AFTER_THE_FIRST: [(&str, u64); 52] = [
         2,
     ),
     ("p 1\n", 2),
-    // a second connection
-    ("b 1 s\nb 2 s\n", 3),
-    ("b 1 s\nb 1 s\n", 3),
     // another connection or stream
     (
         "b 1 s\nc 2 0000001600020001000000000100000000000000010000000161\n",
@@ -71,41 +68,18 @@ const AFTER_THE_FIRST: [(&str, u64); 52] = [
     // another letter
     ("b 1 s\nz 1\n", 3),
     ("b 1 s\nP 1\n", 3),
-    // frames that are no Publish of one simple entry by publisher 0: version, publisher, key
+    // frames that no command spells: version, key
     (
         "b 1 s\nc 1 0000001600020002000000000100000000000000010000000161\n",
-        3,
-    ),
-    (
-        "b 1 s\nc 1 0000001600020001010000000100000000000000010000000161\n",
         3,
     ),
     (
         "b 1 s\nc 1 0000001600010001000000000100000000000000010000000161\n",
         3,
     ),
-    // no item, two items
-    ("b 1 s\nc 1 00000009000200010000000000\n", 3),
-    (
-        "b 1 s\nc 1 000000230002000100000000020000000000000001000000016100000000000000020000000162\n",
-        3,
-    ),
     // a sub-batch
     (
         "b 1 s\nc 1 00000021000200010000000001000000000000000180000100000005000000050000000161\n",
-        3,
-    ),
-    // a byte more, a byte less, another size
-    (
-        "b 1 s\nc 1 000000160002000100000000010000000000000001000000016100\n",
-        3,
-    ),
-    (
-        "b 1 s\nc 1 00000016000200010000000001000000000000000100000001\n",
-        3,
-    ),
-    (
-        "b 1 s\nc 1 0000001700020001000000000100000000000000010000000161\n",
         3,
     ),
     (
@@ -120,12 +94,22 @@ const AFTER_THE_FIRST: [(&str, u64); 52] = [
         "b 1 s\nc 1 00000015000200010000000001000000000000000100000001\n",
         3,
     ),
-    (
-        "b 1 s\nc 1 00000016000200010000000001000000000000000100000001610000001600020001000000000100000000000000010000000161\n",
-        3,
-    ),
-    ("b 1 s\nc 1 00\n", 3),
     ("b 1 s\nc 1 00000000\n", 3),
+    // a connection a second time, and a seventeenth
+    ("b 1 s\nb 1 s\n", 3),
+    (
+        "b 1 s\nb 2 s\nb 3 s\nb 4 s\nb 5 s\nb 6 s\nb 7 s\nb 8 s\nb 9 s\nb 10 s\nb 11 s\nb 12 s\nb 13 s\nb 14 s\nb 15 s\nb 16 s\nb 17 s\n",
+        18,
+    ),
+    // a size above the greatest, also in two pieces
+    ("b 1 s\nc 1 00100001\n", 3),
+    ("b 1 s\nc 1 001000\nc 1 01\n", 4),
+    // commands that are not served: a named declaration, a query, a command of a server
+    ("b 1 s\nc 1 0000000f000100010000000101000170000173\n", 3),
+    ("b 1 s\nc 1 0000000e0005000100000002000170000173\n", 3),
+    ("b 1 s\nc 1 0000000a80010001000000010001\n", 3),
+    // a refused frame behind others
+    ("b 1 s\nc 1 000000070009000105000a000000058009000100\n", 3),
     // a later line
     (
         "b 1 s\nc 1 0000001600020001000000000100000000000000010000000161\np 1\ns 2\n",

@@ -4,9 +4,13 @@
 #[cfg(test)]
 mod bad_lines;
 #[cfg(test)]
+mod large_frames;
+#[cfg(test)]
 mod long_lines;
 #[cfg(test)]
 mod nodes;
+#[cfg(test)]
+mod pieces;
 #[cfg(test)]
 mod replays;
 #[cfg(test)]
