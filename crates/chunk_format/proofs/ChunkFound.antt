@@ -9,7 +9,7 @@ use Rattle.chunk_format.specs.declared.chunk.ChunkKind.TheVariants.{User, Delta,
 use Rattle.chunk_format.specs.declared.chunk.Header.{Header}
 use Rattle.chunk_format.specs.declared.chunk.Chunk.{Chunk}
 use Rattle.chunk_format.specs.declared.fault.ChunkFault.{ChunkFault}
-use Rattle.chunk_format.specs.Crc.{crc_of}
+use Rattle.chunk_crc.specs.Crc.{crc_of}
 use Rattle.chunk_format.specs.Chunks.{entries_bytes, header_bytes, header_of, chunk_bytes, HoldsByKind, IsChunk}
 use Rattle.chunk_format.specs.Faults.{HeaderStands, whole_len, payload_of, trailer_of, IsChunkEntry, TrailerRight, TrackingRight, PartsRight, PartsWrong, ChunkWrong, HeadsChunk}
 use Rattle.chunk_format.proofs.ChunkLaws.{header_length}

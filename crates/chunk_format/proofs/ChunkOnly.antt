@@ -15,7 +15,7 @@ use Rattle.chunk_format.specs.declared.chunk.Header.{Header}
 use Rattle.chunk_format.specs.declared.chunk.Chunk.{Chunk}
 use Rattle.chunk_format.specs.declared.fault.ChunkFault.{ChunkFault}
 use Rattle.chunk_format.specs.declared.fault.ChunkFault.TheVariants.{Short, Magic, Version, Kind, Reserved, Count, Crc, Trailer, Tracking}
-use Rattle.chunk_format.specs.Crc.{crc_of}
+use Rattle.chunk_crc.specs.Crc.{crc_of}
 use Rattle.chunk_format.specs.Tags as tags
 use Rattle.chunk_format.specs.Chunks.{kind_code, head_bytes, header_bytes, header_of, entry_bytes, entry_records, IsEntry, entries_bytes, records_of, chunk_bytes, IsOneSimple, HoldsByKind, IsChunk}
 use Rattle.chunk_format.specs.Faults.{HeaderStands, HeaderWrong, whole_len, payload_of, trailer_of, IsChunkEntry, AreEntries, SpellsEntries, CountWrong, LongPayload, NoEntries, EntryWrong, SumWrong, LastWrong, TrailerWrong, TrackingWrong, PartsWrong, BodyWrong, ChunkWrong}
@@ -26,7 +26,7 @@ use Rattle.chunk_format.proofs.TagLaws.{trailer_fits}
 use Rattle.chunk_format.proofs.EntryLaws.{chunk_entry_code}
 use Rattle.chunk_format.proofs.ChunkLaws.{kind_same, kind_low, kind_small, first_fits, header_length, chunk_length, part_at, head_length}
 use Rattle.chunk_format.proofs.HeaderLaws.{i64_same, lengths_then, offsets_then, fields_then, fields_are, same_header}
-use Rattle.chunk_format.proofs.CrcBound.{crc_fits}
+use Rattle.chunk_crc.proofs.CrcBound.{crc_fits}
 
 -- ---- headers, but for the checksum
 

@@ -1,5 +1,3 @@
-pub mod Table
-pub mod Steps
 pub mod Sizes
 pub mod ChunkLaws
 pub mod ItemLaws
@@ -11,7 +9,6 @@ pub mod TagLaws
 pub mod HeaderLaws
 pub mod EntryLaws
 pub mod ChunkFound
-pub mod CrcBound
 pub mod ChunkOnly
 pub mod ReadLaws
 pub mod OneFault

@@ -10,7 +10,7 @@ use Rattle.chunk_format.specs.declared.chunk.ChunkKind.{ChunkKind}
 use Rattle.chunk_format.specs.declared.chunk.ChunkKind.TheVariants.{User, Delta, Snapshot}
 use Rattle.chunk_format.specs.declared.chunk.Header.{Header}
 use Rattle.chunk_format.specs.declared.chunk.Chunk.{Chunk}
-use Rattle.chunk_format.specs.Crc.{crc_of}
+use Rattle.chunk_crc.specs.Crc.{crc_of}
 use Rattle.chunk_format.specs.Tags.{Tag, SpellsTags, DeltaEntry, SpellsDelta, SnapshotEntry, SpellsSnapshot}
 
 -- the first byte of a sub-batch: bit 1, three bits of compression, four spare bits

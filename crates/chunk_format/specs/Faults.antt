@@ -11,7 +11,7 @@ use Rattle.chunk_format.specs.declared.chunk.Header.{Header}
 use Rattle.chunk_format.specs.declared.chunk.Chunk.{Chunk}
 use Rattle.chunk_format.specs.declared.fault.ChunkFault.{ChunkFault}
 use Rattle.chunk_format.specs.declared.fault.ChunkFault.TheVariants.{Short, Magic, Version, Kind, Reserved, Count, Crc, Trailer, Tracking}
-use Rattle.chunk_format.specs.Crc.{crc_of}
+use Rattle.chunk_crc.specs.Crc.{crc_of}
 use Rattle.chunk_format.specs.Items.{AreItems, FirstWrong}
 use Rattle.chunk_format.specs.Tags as tags
 use Rattle.chunk_format.specs.Chunks.{entry_bytes, IsEntry, HasRecords, records_of, header_bytes, header_of, IsOneSimple, ChunkSpells}

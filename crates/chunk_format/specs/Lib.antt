@@ -1,4 +1,3 @@
-pub mod Crc
 pub mod Items
 pub mod Tags
 pub mod Chunks

@@ -7,11 +7,11 @@ ghost use Rattle.chunk_format.specs.Faults.{IsHeader, SpellsEntries, WrongEntry,
 ghost use Rattle.chunk_format.specs.declared.chunk.Chunk.{Chunk};
 
 use crate::chunk::{ChunkKind, Header};
-use crate::crc::crc32;
 use crate::fault::ChunkFault;
 use crate::lists::{wrong_delta, wrong_snapshot, wrong_tag};
 use crate::split::{EntryParts, split_entry};
 use crate::valid::MAX_PAYLOAD;
+use chunk_crc::crc32;
 
 /// How many records a payload of so many entries has, or the place of its first wrong entry,
 /// or of what is left over.

@@ -5,9 +5,9 @@ ghost use Rattle.std.specs.List.{All};
 ghost use Rattle.chunk_format.specs.Chunks.{IsEntry, entries_bytes, kind_code, kind_bytes, head_bytes, length_bytes, header_bytes, header_of, IsChunk, ChunkSpells};
 
 use crate::chunk::{Chunk, ChunkKind, Header};
-use crate::crc::crc32;
 use crate::entry::{Entry, put_entry};
 use crate::valid::count_records;
+use chunk_crc::crc32;
 use frame_wire::{Octets, put_i64, put_u8, put_u16, put_u32, put_u64};
 use std::alloc::{AllocError, Global};
 

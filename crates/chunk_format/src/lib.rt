@@ -3,7 +3,6 @@
 
 mod check;
 mod chunk;
-mod crc;
 mod decode;
 mod encode;
 mod entry;
@@ -20,7 +19,7 @@ mod valid;
 
 pub use check::check_chunk;
 pub use chunk::{Chunk, ChunkKind, Header};
-pub use crc::crc32;
+pub use chunk_crc::crc32;
 pub use decode::{ChunkError, ReadChunk, decode_chunk};
 pub use encode::{encode_chunk, put_header};
 pub use entry::{Entry, put_entry};

@@ -1,7 +1,7 @@
 -- Eight steps of a word are those of its low byte, and the rest of the word moved down.
 use Rattle.std.proofs.Common.{◌≡◌, ℕ, ◌+◌, ◌*◌, ◌/◌, ◌%◌, ◌^◌, ◌<◌, Bool, true, false, cond, eqb, refl, sym, ap, ◌∙◌, arith}
 use Rattle.std.specs.Int.Bits.{bit_xor, xor_comm, xor_assoc, xor_shr, xor_mod, xor_shifted, xor_zero_r}
-use Rattle.chunk_format.specs.Crc.{bit_step, eight_steps, byte_step}
+use Rattle.chunk_crc.specs.Crc.{bit_step, eight_steps, byte_step}
 
 half : (x k : ℕ) → bit_xor x (k * 2) / 2 ≡ bit_xor (x / 2) k
 half x k = xor_shr x (k * 2) 1 ∙ ap (bit_xor (x / 2)) (omega arith)

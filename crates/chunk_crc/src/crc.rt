@@ -1,6 +1,6 @@
 //! The CRC-32 of IEEE 802.3.
 ghost use Rattle.std.specs.Prelude.{slice_index, ◌≡◌, ◌<◌, ◌^◌};
-ghost use Rattle.chunk_format.specs.Crc.{crc_of, byte_step};
+ghost use Rattle.chunk_crc.specs.Crc.{crc_of, byte_step};
 
 /// What eight steps make of each byte.
 static TABLE: [u32; 256] = [

@@ -2,7 +2,7 @@
 use Rattle.std.proofs.Common.{ℕ, suc, ◌/◌, ◌%◌, ◌^◌, ◌<◌, List, [], ◌∷◌, fold, get_or, Bool, true, false, cond, eqb, arith}
 use Rattle.std.specs.Prelude.{bit_xor}
 use Rattle.std.proofs.lemmas.Nat.{xor_lt}
-use Rattle.chunk_format.specs.Crc.{bit_step, eight_steps, byte_step, crc_of}
+use Rattle.chunk_crc.specs.Crc.{bit_step, eight_steps, byte_step, crc_of}
 
 chosen_fits : (b : Bool) (x y : ℕ) → x < 2 ^ 32 → y < 2 ^ 32 → cond b x y < 2 ^ 32
 chosen_fits true x y p q = p

@@ -1,8 +1,8 @@
 -- The table has what eight steps make of each byte.
 use Rattle.std.proofs.Common.{◌≡◌, ℕ, zero, suc, ◌+◌, ◌<◌, Bool, true, false, ◌&&◌, eqb, List, [], ◌∷◌, length, get_or, refl, ap, ◌∙◌, zero-add, arith}
 use Rattle.std.proofs.lemmas.Bool.{eqb-true}
-use Rattle.chunk_format.specs.declared.crc.TheConstants.{TABLE}
-use Rattle.chunk_format.specs.Crc.{bit_step, eight_steps}
+use Rattle.chunk_crc.specs.declared.crc.TheConstants.{TABLE}
+use Rattle.chunk_crc.specs.Crc.{bit_step, eight_steps}
 
 -- each entry from place i on is right
 abbrev check : ℕ → List ℕ → Bool

@@ -1,11 +1,11 @@
 use Rattle.std.proofs.Common.{◌≡◌, ◌%◌, ◌<◌, ◌∙◌, sym, ap, get_or, arith}
 use Rattle.std.specs.Prelude.{bit_and, bit_xor}
 use Rattle.std.proofs.lemmas.Grind.{common_steps}
-use Rattle.chunk_format.specs.declared.crc.TheConstants.{TABLE}
-use Rattle.chunk_format.specs.Crc.{eight_steps}
-use Rattle.chunk_format.proofs.Table.{table_rule}
-use Rattle.chunk_format.proofs.Steps.{next_is}
-use Rattle.chunk_format.proofs.crc.next.Goals as goal
+use Rattle.chunk_crc.specs.declared.crc.TheConstants.{TABLE}
+use Rattle.chunk_crc.specs.Crc.{eight_steps}
+use Rattle.chunk_crc.proofs.Table.{table_rule}
+use Rattle.chunk_crc.proofs.Steps.{next_is}
+use Rattle.chunk_crc.proofs.crc.next.Goals as goal
 
 pub returns : goal.returns
 returns c =

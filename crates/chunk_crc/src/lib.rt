@@ -1,0 +1,6 @@
+//! The checksum of a chunk: the CRC-32 of IEEE 802.3.
+#![tactic(auto)]
+
+mod crc;
+
+pub use crc::crc32;
