@@ -13,5 +13,6 @@ pub mod ChunkOnly
 pub mod ReadLaws
 pub mod OneFault
 pub mod RowLaws
+pub mod LinkLaws
 pub mod StoredLaws
 pub mod FieldLaws

@@ -2,6 +2,8 @@ pub mod Items
 pub mod Tags
 pub mod Chunks
 pub mod LogRows
+pub mod ByName
+pub mod Logs
 pub mod Parts
 pub mod Named
 pub mod StoredChunks
