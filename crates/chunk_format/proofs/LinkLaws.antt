@@ -1,8 +1,8 @@
 -- Ends and epochs of lists of chunks.
-use Rattle.std.proofs.Common.{◌≡◌, ℕ, ◌≤◌, ◌<◌, ◌⊎◌, List, [], ◌∷◌, ◌++◌, refl, sym, ap, ◌∙◌, subst, arith, inl, inr}
+use Rattle.std.proofs.Common.{◌≡◌, ℕ, List, [], ◌∷◌, ◌++◌, refl}
 use Rattle.chunk_format.specs.declared.chunk.Chunk.{Chunk}
-use Rattle.chunk_format.specs.Chunks.{end_of_chunk, IsChunk}
-use Rattle.chunk_format.specs.Logs.{end_from, end_of, epoch_from, last_epoch, Linked, IsLog}
+use Rattle.chunk_format.specs.Chunks.{end_of_chunk}
+use Rattle.chunk_format.specs.Logs.{end_from, end_of, epoch_from, last_epoch}
 
 pub end_join : (at : ℕ) (a b : List Chunk) → end_from at (a ++ b) ≡ end_from (end_from at a) b
 end_join at [] b = refl

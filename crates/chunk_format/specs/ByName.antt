@@ -1,11 +1,11 @@
 -- What a list of chunks says by name: the ids of publishers, the offsets that consumers stored, and a snapshot of both.
-use Rattle.std.specs.Prelude.{◌≡◌, ℕ, ◌+◌, ◌≤◌, max, Bool, not, ◌==◌, List, [], ◌∷◌, ◌++◌, map, take, drop, slice_index, Option, Some, None, option_map, unwrap_or, flat_map, filter, find, if◌then◌else◌}
+use Rattle.std.specs.Prelude.{ℕ, ◌+◌, ◌≤◌, max, Bool, not, ◌==◌, List, [], ◌∷◌, ◌++◌, map, take, drop, slice_index, Option, Some, None, option_map, unwrap_or, flat_map, filter, find, if◌then◌else◌}
 use Rattle.std.specs.Int.{w64, from_be_bytes}
 use Rattle.std.specs.List.{list_any, reduce, last_or}
 use Rattle.std.specs.List.Sorted.{IsStrictlyIncreasing}
 use Rattle.std.specs.Cmp.Lexicographic.{pointwise}
 use Rattle.chunk_format.specs.declared.entry.Entry.{Entry}
-use Rattle.chunk_format.specs.declared.entry.Entry.TheVariants.{Simple, Batch}
+use Rattle.chunk_format.specs.declared.entry.Entry.TheVariants.{Simple}
 use Rattle.chunk_format.specs.declared.chunk.ChunkKind.{ChunkKind}
 use Rattle.chunk_format.specs.declared.chunk.ChunkKind.TheVariants.{User, Delta, Snapshot}
 use Rattle.chunk_format.specs.declared.chunk.Chunk.{Chunk}
