@@ -1,10 +1,10 @@
 -- What a crash leaves of the calls that add a pair.
 use Rattle.std.proofs.Common.{◌≡◌, ◌≢◌, ℕ, ◌+◌, ◌*◌, ◌≤◌, ◌<◌, ◌^◌, List, [], ◌∷◌, ◌++◌, length, Some, refl, sym, ◌∙◌, ap, subst, arith, length-append}
-use Rattle.member_disk.specs.declared.file_id.FileId.{FileId}
-use Rattle.member_disk.specs.declared.disk.DiskDid.{DiskDid}
-use Rattle.member_disk.specs.declared.disk.DiskDid.TheVariants as did
-use Rattle.member_disk.specs.Disk.{DiskState, Image, bytes_of, over, Settled, Looks, Changes, Only, TornFile}
-use Rattle.member_disk.proofs.Chain.{written_longer, over_end, synced}
+use Rattle.disk_calls.specs.declared.file_id.FileId.{FileId}
+use Rattle.disk_calls.specs.declared.disk.DiskDid.{DiskDid}
+use Rattle.disk_calls.specs.declared.disk.DiskDid.TheVariants as did
+use Rattle.disk_calls.specs.Disk.{DiskState, Image, bytes_of, over, Settled, Looks, Changes, Only, TornFile}
+use Rattle.disk_calls.proofs.Chain.{written_longer, over_end, synced}
 use Rattle.gated_words.specs.Words.{gate, words, spelled, AllFit}
 use Rattle.gated_words.specs.Backing.{EachImage, Held}
 use Rattle.gated_words.specs.Looking.{Adds}

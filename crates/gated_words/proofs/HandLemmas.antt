@@ -2,8 +2,8 @@
 use Rattle.std.proofs.Common.{◌≡◌, inl, inr, ℕ, List, length, Some, Result, Ok, Err, Bool, sym, ◌∙◌, ap, subst, arith}
 use Rattle.std.proofs.lemmas.Bool.{cases_eq}
 use Rattle.std.specs.Prelude.{IsTrue, OnOk, OnErr}
-use Rattle.member_disk.specs.declared.file_id.FileId.{FileId}
-use Rattle.member_disk.specs.Disk.{DiskState, Image, bytes_of, IsThere, LeftByCrash}
+use Rattle.disk_calls.specs.declared.file_id.FileId.{FileId}
+use Rattle.disk_calls.specs.Disk.{DiskState, Image, bytes_of, IsThere, LeftByCrash}
 use Rattle.gated_words.specs.declared.fault.GateFault.{GateFault}
 use Rattle.gated_words.specs.Words.{PairsOf, spelled}
 use Rattle.gated_words.specs.InHand.{InHand}

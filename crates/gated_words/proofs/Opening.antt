@@ -1,9 +1,9 @@
 -- What is found when a file is opened, and what a crash leaves of it then.
 use Rattle.std.proofs.Common.{◌≡◌, ◌⊎◌, inl, inr, ℕ, ◌+◌, ◌≤◌, List, [], ◌++◌, length, take, drop, Some, None, sym, ◌∙◌, ap, subst, arith, length-append}
 use Rattle.std.proofs.lemmas.List.{drop_all}
-use Rattle.member_disk.specs.declared.file_id.FileId.{FileId}
-use Rattle.member_disk.specs.Disk.{DiskState, Image, bytes_of, Settled, Looks, Only, over}
-use Rattle.member_disk.proofs.Chain.{synced}
+use Rattle.disk_calls.specs.declared.file_id.FileId.{FileId}
+use Rattle.disk_calls.specs.Disk.{DiskState, Image, bytes_of, Settled, Looks, Only, over}
+use Rattle.disk_calls.proofs.Chain.{synced}
 use Rattle.gated_words.specs.Words.{header, spelled, Opens, Damages}
 use Rattle.gated_words.specs.Backing.{SamePairs, Held}
 use Rattle.gated_words.specs.Looking.{FindsPairs}

@@ -3,7 +3,7 @@ use Rattle.std.proofs.Common.{◌≡◌, ◌≢◌, inl, inr, ℕ, zero, ◌+◌
 use Rattle.std.proofs.lemmas.List.{append-nil, take_at, take_all, length-take}
 use Rattle.std.proofs.lemmas.Bool.{cases_eq, cases_lt}
 use Rattle.std.proofs.Math.Seq.{take-append-add}
-use Rattle.member_disk.specs.Disk.{Image, Longer, Shorter}
+use Rattle.disk_calls.specs.Disk.{Image, Longer, Shorter}
 use Rattle.gated_words.specs.Words.{gate, words, spelled, pairs_behind, PairsOf, Opens, AllFit}
 use Rattle.gated_words.specs.Looking.{Adds, FindsPairs, StaysWith}
 use Rattle.gated_words.proofs.Spelling.{length-words, length-spelled, spelled-push, AllFit-push}

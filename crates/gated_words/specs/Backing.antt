@@ -1,7 +1,7 @@
 -- How a file of gated pairs and the pairs in hand belong together, on a disk that a crash may stop.
 use Rattle.std.specs.Prelude.{◌≡◌, ◌⊎◌, ℕ, ◌≤◌, List, [], ◌∷◌, ◌++◌, length, IsTrue, None, Result, IsErrOf}
-use Rattle.member_disk.specs.declared.file_id.FileId.{FileId}
-use Rattle.member_disk.specs.Disk.{DiskState, Image, bytes_of, Settled}
+use Rattle.disk_calls.specs.declared.file_id.FileId.{FileId}
+use Rattle.disk_calls.specs.Disk.{DiskState, Image, bytes_of, Settled}
 use Rattle.gated_words.specs.declared.fault.GateFault.{GateFault}
 use Rattle.gated_words.specs.declared.fault.GateFault.TheVariants as fault
 use Rattle.gated_words.specs.Words.{spelled, PairsOf, Opens, AllFit}

@@ -1,6 +1,6 @@
 -- What a look at the bytes of a file finds, and what a cut behind it leaves.
 use Rattle.std.specs.Prelude.{◌≡◌, ℕ, ◌≤◌, ◌+◌, ◌*◌, List, ◌++◌, length}
-use Rattle.member_disk.specs.Disk.{Image, bytes_of, IsThere}
+use Rattle.disk_calls.specs.Disk.{Image, bytes_of, IsThere}
 use Rattle.gated_words.specs.declared.open_file.Found.{Found}
 use Rattle.gated_words.specs.declared.open_file.Found.TheVariants as found
 use Rattle.gated_words.specs.Words.{spelled, PairsOf, Opens, AllFit}

@@ -1,13 +1,13 @@
 //! Adding a pair to a file.
 
 ghost use Rattle.std.specs.Prelude.{◌≡◌, IsErrOf, IsTrue, ◌++◌, ◌∷◌, [], ℕ, OnOk, OnErr};
-ghost use Rattle.member_disk.specs.Disk.{HasCause, Elsewhere};
+ghost use Rattle.disk_calls.specs.Disk.{HasCause, Elsewhere};
 ghost use Rattle.gated_words.specs.Backing.{EachImage, Held};
 ghost use Rattle.gated_words.specs.Looking.{Adds};
 
 use crate::fault::GateFault;
 use crate::record::record_of;
-use member_disk::{Disk, DiskDid, FileId};
+use disk_calls::{Disk, DiskDid, FileId};
 
 /// Adds a pair to those of a file that is sure. Memory for it is taken before the disk is called.
 /// After `Disk` the file is not sure.

@@ -1,14 +1,14 @@
 //! Pairs of words that last.
 
 ghost use Rattle.std.specs.Prelude.{◌≡◌, ◌⊎◌, IsErrOf, IsTrue, Ok, IfOk, OnOk, OnErr, ◌++◌, ◌∷◌, [], List, ℕ, length, ◌-◌, slice_get};
-ghost use Rattle.member_disk.specs.Disk.{HasCause, Elsewhere, bytes_of};
+ghost use Rattle.disk_calls.specs.Disk.{HasCause, Elsewhere, bytes_of};
 ghost use Rattle.gated_words.specs.Words.{PairsOf, Opens, Damages};
 ghost use Rattle.gated_words.specs.Backing.{Backs, EachHas, KeepsPairs, MayAdd, NoneLost, TellsDamage};
 
 use crate::add_pair::put_sure;
 use crate::fault::GateFault;
 use crate::open_file::open_pairs;
-use member_disk::{Disk, FileId};
+use disk_calls::{Disk, FileId};
 use std::alloc::Global;
 use std::marker::Model;
 

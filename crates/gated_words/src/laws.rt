@@ -1,12 +1,12 @@
 //! What holds of every file of pairs, named by contracts.
 
 ghost use Rattle.std.specs.Prelude.{◌≡◌, ◌≢◌, ◌++◌, List, ℕ};
-ghost use Rattle.member_disk.specs.Disk.{Elsewhere, LeftByCrash, Looks};
+ghost use Rattle.disk_calls.specs.Disk.{Elsewhere, LeftByCrash, Looks};
 ghost use Rattle.gated_words.specs.Words.{AllFit, Damages, Opens, PairsOf, StartsNoRecord, spelled};
 ghost use Rattle.gated_words.specs.InHand.{InHand};
 ghost use Rattle.gated_words.specs.Backing.{Backs};
 
-use member_disk::{Disk, FileId};
+use disk_calls::{Disk, FileId};
 
 /// A file has the pairs that are spelled in it, up to where no whole record with its gate begins. No
 /// file that can be opened is damaged, and damage has one place. It does nothing.

@@ -1,14 +1,14 @@
 //! Opening a file of pairs.
 
 ghost use Rattle.std.specs.Prelude.{◌≡◌, ◌⊎◌, None, IsErrOf, ◌≤◌, [], List, ℕ, length, take, IfOk};
-ghost use Rattle.member_disk.specs.Disk.{Image, HasCause, Looks, Elsewhere, Settled, bytes_of};
+ghost use Rattle.disk_calls.specs.Disk.{Image, HasCause, Looks, Elsewhere, Settled, bytes_of};
 ghost use Rattle.gated_words.specs.Words.{header, PairsOf, Opens, Damages};
 ghost use Rattle.gated_words.specs.Backing.{EachImage, KeepsPairs, Held, NoneLost};
 ghost use Rattle.gated_words.specs.Looking.{Finds, FindsPairs, StaysWith};
 
 use crate::fault::GateFault;
 use crate::record::{HEADER, has_header, read_pairs};
-use member_disk::{Disk, DiskDid, DiskSize, FileId, shorten};
+use disk_calls::{Disk, DiskDid, DiskSize, FileId, shorten};
 use std::alloc::Global;
 
 /// Opens a file of pairs, or makes one.

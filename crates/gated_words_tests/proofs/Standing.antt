@@ -4,10 +4,10 @@ use Rattle.std.proofs.lemmas.Bool.{cases_eq}
 use Rattle.std.specs.Prelude.{IfOk, OnOk, OnErr, IsTrue}
 use Rattle.std.specs.BTreeMap.{BTreeMap}
 use Rattle.std.specs.declared.alloc.AllocError.{AllocError}
-use Rattle.member_disk.specs.declared.file_id.FileId.{FileId}
-use Rattle.member_disk.specs.declared.file_id.FileName.{FileName}
+use Rattle.disk_calls.specs.declared.file_id.FileId.{FileId}
+use Rattle.disk_calls.specs.declared.file_id.FileName.{FileName}
 use Rattle.member_disk.specs.declared.memory_stream.MemoryStream.{MemoryStream}
-use Rattle.member_disk.specs.Disk.{DiskState, Image, bytes_of, LeftByCrash}
+use Rattle.disk_calls.specs.Disk.{DiskState, Image, bytes_of, LeftByCrash}
 use Rattle.member_disk.specs.Memory.{Held, ImageOf, seen_of, sure}
 use Rattle.member_disk.specs.Streams.{Stream, Stays, no_files}
 use Rattle.member_disk.specs.MemoryDisks.{OnStream, files_in, held_in, state_of}

@@ -1,7 +1,7 @@
 -- A file that may be opened.
 use Rattle.std.specs.BTreeMap.{BTreeMap}
 use Rattle.std.specs.Prelude.{ℕ}
-use Rattle.member_disk.specs.declared.file_id.FileId.{FileId}
+use Rattle.disk_calls.specs.declared.file_id.FileId.{FileId}
 use Rattle.member_disk.specs.declared.memory_stream.MemoryStream.{MemoryStream}
 use Rattle.member_disk.specs.MemoryDisks.{state_of}
 use Rattle.gated_words.specs.Backing.{NoneLost}

@@ -3,9 +3,9 @@ use Rattle.std.proofs.Common.{◌≡◌, ◌≢◌, ◌↔◌, IsTrue, inl, inr,
 use Rattle.std.specs.BTreeMap.{BTreeMap, get, is_at}
 use Rattle.std.specs.Map.{lookup}
 use Rattle.member_disk.specs.Memory.{Held, IsCrashed, ImageOf, CrashedFile, held_at}
-use Rattle.member_disk.specs.FileNames.{last_of}
-use Rattle.member_disk.specs.declared.file_id.FileName.{FileName}
-use Rattle.member_disk.specs.contracts.file_id.FileNameOrd.TheImpl as ordered
+use Rattle.member_disk.specs.FilesInOrder.{last_of}
+use Rattle.disk_calls.specs.declared.file_id.FileName.{FileName}
+use Rattle.disk_calls.specs.contracts.file_id.FileNameOrd.TheImpl as ordered
 use Rattle.member_disk.proofs.Names.{cases_at}
 
 pub crashed_by : (image : ℕ) (is_last : Bool) (L : Type 0) (old new : Held) → (IsTrue is_last ↔ L) → IsCrashed image (is_last ≡ true) old new.base → ImageOf old new.base → new.calls ≡ [] → CrashedFile image L old new

@@ -1,7 +1,7 @@
 -- Files that were made sure, and the images that a crash picks.
 use Rattle.std.proofs.Common.{◌≡◌, inl, inr, ℕ, zero, suc, ◌/◌, ◌≤◌, Bool, true, false, List, length, take, drop, ◌⊎◌, refl, sym, ◌∙◌, ap, subst, arith}
 use Rattle.std.proofs.lemmas.List.{length-take, length-replicate}
-use Rattle.member_disk.specs.Disk.{Image}
+use Rattle.disk_calls.specs.Disk.{Image}
 use Rattle.member_disk.specs.Memory.{Held, ImageOf, IsCrashed, Surer, all_done, TearsAll, seen_of, half, all_a5}
 use Rattle.member_disk.proofs.Tearing.{all_done_parts, tears_rest, all_stay, torn_last_tears}
 use Rattle.member_disk.specs.TornDone.{all_done_tears}

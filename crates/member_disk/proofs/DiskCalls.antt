@@ -2,16 +2,16 @@
 use Rattle.std.proofs.Common.{◌≡◌, ◌≢◌, inl, inr, ℕ, Bool, List, [], take, Some, None, Result, Ok, Err, OnOk, ◌⊎◌, refl, sym, ◌∙◌, ap, subst}
 use Rattle.std.proofs.lemmas.Bool.{cases_eq}
 use Rattle.std.specs.BTreeMap.{BTreeMap}
-use Rattle.member_disk.specs.Disk.{Image, Changes, Elsewhere, Looks, AreNames, RemovedFile, IsThere, LeftByCrash, bytes_of}
+use Rattle.disk_calls.specs.Disk.{Image, Changes, Elsewhere, Looks, AreNames, RemovedFile, IsThere, LeftByCrash, bytes_of}
 use Rattle.member_disk.specs.Memory.{Held, ImageOf, Tears, TearsAll, done, all_done, seen_of, sure, with_call}
 use Rattle.member_disk.specs.Streams.{Stream, Moves, Crashes}
 use Rattle.member_disk.specs.MemoryDisks.{OnStream, Counts, Does, DoesSome, Takes, Answers, files_in, held_in, state_of}
 use Rattle.member_disk.specs.TornDone.{all_done_tears}
 use Rattle.std.specs.declared.alloc.AllocError.{AllocError}
-use Rattle.member_disk.specs.declared.disk.DiskDid.{DiskDid}
-use Rattle.member_disk.specs.declared.disk.DiskDid.TheVariants as did
-use Rattle.member_disk.specs.declared.file_id.FileName.{FileName}
-use Rattle.member_disk.specs.declared.file_id.FileId.{FileId}
+use Rattle.disk_calls.specs.declared.disk.DiskDid.{DiskDid}
+use Rattle.disk_calls.specs.declared.disk.DiskDid.TheVariants as did
+use Rattle.disk_calls.specs.declared.file_id.FileName.{FileName}
+use Rattle.disk_calls.specs.declared.file_id.FileId.{FileId}
 use Rattle.member_disk.specs.declared.memory_file.Call.{Call}
 use Rattle.member_disk.specs.declared.memory_file.Call.TheVariants as call
 use Rattle.member_disk.specs.declared.memory_map.Happened.{Happened}

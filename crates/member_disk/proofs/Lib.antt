@@ -1,9 +1,6 @@
-pub mod Chain
 pub mod CrashLoop
 pub mod Crashes
 pub mod DiskCalls
-pub mod Laying
 pub mod Names
 pub mod NamesThere
-pub mod Parts
 pub mod Tearing

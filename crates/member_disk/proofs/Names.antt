@@ -1,8 +1,8 @@
 -- The order of names, and maps by it.
 use Rattle.std.proofs.Common.{◌≡◌, ◌≢◌, inl, inr, Bool, true, false, ◌⊎◌, rules, refl, subst}
 use Rattle.std.specs.BTreeMap.{is_at}
-use Rattle.member_disk.specs.declared.file_id.FileName.{FileName}
-use Rattle.member_disk.specs.contracts.file_id.FileNameOrd.TheImpl as ordered
+use Rattle.disk_calls.specs.declared.file_id.FileName.{FileName}
+use Rattle.disk_calls.specs.contracts.file_id.FileNameOrd.TheImpl as ordered
 
 pub is_at_name : FileName → FileName → Bool
 is_at_name f g = is_at (ordered.ghosts.cmp f) g

@@ -9,16 +9,16 @@ use Rattle.std.specs.declared.cmp.Ordering.{Ordering}
 use Rattle.std.specs.declared.cmp.Ordering.TheVariants.{Less}
 use Rattle.std.specs.Option.{is_some}
 use Rattle.std.proofs.lemmas.Map.Keys.{sorted_head, sorted_tail}
-use Rattle.member_disk.specs.Disk.{Image, IsThere, AreNames}
+use Rattle.disk_calls.specs.Disk.{Image, IsThere, AreNames}
 use Rattle.member_disk.specs.Memory.{Held, held_at, seen_of}
 use Rattle.std.specs.Ordering.{nat_cmp}
 use Rattle.std.specs.declared.alloc.AllocError.{AllocError}
 use Rattle.member_disk.specs.Streams.{names_there, stream_of}
 use Rattle.member_disk.specs.MemoryDisks.{files_in, held_in, stream_at}
 use Rattle.member_disk.specs.declared.memory_stream.MemoryStream.{MemoryStream}
-use Rattle.member_disk.specs.declared.file_id.FileName.{FileName}
-use Rattle.member_disk.specs.declared.file_id.FileId.{FileId}
-use Rattle.member_disk.specs.contracts.file_id.FileNameOrd.TheImpl as ordered
+use Rattle.disk_calls.specs.declared.file_id.FileName.{FileName}
+use Rattle.disk_calls.specs.declared.file_id.FileId.{FileId}
+use Rattle.disk_calls.specs.contracts.file_id.FileNameOrd.TheImpl as ordered
 use Rattle.member_disk.proofs.Names.{here, cases_at}
 
 abbrev pub found_in : FileName → List (FileName × Held) → Option Held

@@ -1,7 +1,7 @@
 -- Calls that were torn, or not.
 use Rattle.std.proofs.Common.{◌≡◌, ℕ, zero, suc, ◌+◌, ◌≤◌, Bool, true, false, List, [], ◌∷◌, ◌++◌, length, take, drop, Some, None, refl, sym, ◌∙◌, ap, subst, arith}
 use Rattle.std.proofs.lemmas.List.{take_all}
-use Rattle.member_disk.specs.Disk.{Image, TornFile}
+use Rattle.disk_calls.specs.Disk.{Image, TornFile}
 use Rattle.member_disk.specs.Memory.{done, all_done, Tears, TearsAll, has_write, torn_call, torn_last}
 use Rattle.member_disk.specs.TornDone.{take_min, over_file, cut_done, done_tears}
 use Rattle.member_disk.specs.declared.memory_file.Call.{Call}

@@ -1,9 +1,7 @@
-pub mod Disk
-pub mod FileNames
+pub mod FilesInOrder
 pub mod Memory
 pub mod Settings
 pub mod Streams
 pub mod MemoryDisks
 pub mod TornDone
-pub mod Joined
-pub mod Laid
+pub use Rattle.disk_calls.specs.Disk

@@ -1,6 +1,6 @@
 -- The files of a disk in memory, and which image of each a crash takes.
 use Rattle.std.specs.Prelude.{◌≡◌, ℕ, ◌/◌, ◌^◌, ◌<◌, ◌≤◌, Bool, true, false, cond, List, [], ◌∷◌, ◌++◌, length, take, drop, replicate, Option, Some, None}
-use Rattle.member_disk.specs.Disk.{Image, bytes_of, TornFile, CutFile, over}
+use Rattle.disk_calls.specs.Disk.{Image, bytes_of, TornFile, CutFile, over}
 use Rattle.member_disk.specs.declared.memory_file.Call.{Call}
 use Rattle.member_disk.specs.declared.memory_file.Call.TheVariants as call
 

@@ -2,14 +2,14 @@
 use Rattle.std.specs.Prelude.{◌≡◌, ◌≢◌, ◌⊎◌, ◌≤◌, ℕ, Bool, true, false, List, Option, Some, None}
 use Rattle.std.specs.Ordering.{nat_cmp}
 use Rattle.std.specs.BTreeMap.{BTreeMap, get}
-use Rattle.member_disk.specs.Disk.{DiskState, Rose}
+use Rattle.disk_calls.specs.Disk.{DiskState, Rose}
 use Rattle.member_disk.specs.Memory.{Held, ImageOf, Surer, seen_of}
 use Rattle.member_disk.specs.Settings.{after_call}
 use Rattle.member_disk.specs.Streams.{Stream, Moves, Stays, stream_of, no_files}
-use Rattle.member_disk.specs.declared.file_id.FileName.{FileName}
-use Rattle.member_disk.specs.declared.file_id.FileId.{FileId}
-use Rattle.member_disk.specs.declared.disk.DiskDid.{DiskDid}
-use Rattle.member_disk.specs.declared.disk.DiskDid.TheVariants as did
+use Rattle.disk_calls.specs.declared.file_id.FileName.{FileName}
+use Rattle.disk_calls.specs.declared.file_id.FileId.{FileId}
+use Rattle.disk_calls.specs.declared.disk.DiskDid.{DiskDid}
+use Rattle.disk_calls.specs.declared.disk.DiskDid.TheVariants as did
 use Rattle.member_disk.specs.declared.memory_map.Happened.{Happened}
 use Rattle.member_disk.specs.declared.memory_map.Happened.TheVariants as happened
 use Rattle.member_disk.specs.declared.memory_stream.MemoryStream.{MemoryStream}

@@ -2,11 +2,11 @@
 use Rattle.std.specs.Prelude.{◌≡◌, ◌≢◌, ℕ, List, [], ◌∷◌, Some, None, is_some, if◌then◌else◌}
 use Rattle.std.specs.BTreeMap.{get}
 use Rattle.member_disk.specs.Memory.{Held, IsCrashed, ImageOf, held_at, seen_of, sure}
-use Rattle.member_disk.specs.FileNames.{last_of}
-use Rattle.member_disk.specs.declared.file_id.FileName.{FileName}
-use Rattle.member_disk.specs.declared.file_id.FileId.{FileId}
+use Rattle.member_disk.specs.FilesInOrder.{last_of}
+use Rattle.disk_calls.specs.declared.file_id.FileName.{FileName}
+use Rattle.disk_calls.specs.declared.file_id.FileId.{FileId}
 use Rattle.member_disk.specs.declared.memory_stream.MemoryStream.{MemoryStream}
-use Rattle.member_disk.specs.contracts.file_id.FileNameOrd.TheImpl as ordered
+use Rattle.disk_calls.specs.contracts.file_id.FileNameOrd.TheImpl as ordered
 
 -- its files, those of the writes that no sync of their file has followed, in the order of the writes, and for each call that is to fail how many come before it
 pub record Stream : Type 0 where

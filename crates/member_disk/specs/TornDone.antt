@@ -3,7 +3,7 @@ use Rattle.std.proofs.Common.{◌≡◌, inl, inr, ℕ, zero, suc, ◌+◌, ◌-
 use Rattle.std.proofs.lemmas.List.{drop_all, drop_at, drop-drop, length-take}
 use Rattle.std.proofs.lemmas.Bool.{cases_lt}
 use Rattle.std.proofs.lemmas.Grind.{common_steps}
-use Rattle.member_disk.specs.Disk.{Image, bytes_of, Torn, TornFile, CutFile, over}
+use Rattle.disk_calls.specs.Disk.{Image, bytes_of, Torn, TornFile, CutFile, over}
 use Rattle.member_disk.specs.Memory.{done, all_done, Tears, TearsAll}
 use Rattle.member_disk.specs.declared.memory_file.Call.{Call}
 use Rattle.member_disk.specs.declared.memory_file.Call.TheVariants as call

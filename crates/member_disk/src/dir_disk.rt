@@ -1,8 +1,7 @@
 ghost use Rattle.std.specs.Prelude.{◌≡◌, ◌+◌, ◌<◌, ◌≤◌, ◌^◌, None, IsTrue};
-ghost use Rattle.member_disk.specs.Disk.{DiskState, Rose};
+ghost use Rattle.disk_calls.specs.Disk.{DiskState, Rose};
 
-use crate::disk::{Disk, DiskDid, DiskNames, DiskSize};
-use crate::file_id::{FileId, FileName};
+use disk_calls::{Disk, DiskDid, DiskNames, DiskSize, FileId, FileName};
 use frame_wire::Row;
 use std::alloc::{AllocError, Global};
 use std::fs::{OpenFile, OpenOptions};
@@ -59,6 +58,9 @@ fn name_of(alloc: Global, file: FileName) -> Result<String, AllocError> {
         FileName::Epochs => String::from_str(alloc, "epochs.words"),
         FileName::CatalogWords => String::from_str(alloc, "catalog.words"),
         FileName::CatalogBytes => String::from_str(alloc, "catalog.bytes"),
+        FileName::PromiseTwo => String::from_str(alloc, "promise.words2"),
+        FileName::EpochsTwo => String::from_str(alloc, "epochs.words2"),
+        FileName::CatalogWordsTwo => String::from_str(alloc, "catalog.words2"),
     }
 }
 
@@ -84,6 +86,9 @@ fn file_of(name: &str) -> Option<FileName> {
         "epochs.words" => Some(FileName::Epochs),
         "catalog.words" => Some(FileName::CatalogWords),
         "catalog.bytes" => Some(FileName::CatalogBytes),
+        "promise.words2" => Some(FileName::PromiseTwo),
+        "epochs.words2" => Some(FileName::EpochsTwo),
+        "catalog.words2" => Some(FileName::CatalogWordsTwo),
         _ => None,
     }
 }

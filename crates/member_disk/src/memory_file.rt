@@ -1,8 +1,8 @@
 ghost use Rattle.std.specs.Prelude.{◌≡◌, ◌+◌, ◌≤◌, ◌++◌, ◌∷◌, [], ℕ, Some, None, true, length, take, drop, IfOk, OnOk, OnErr};
-ghost use Rattle.member_disk.specs.Disk.{Image, bytes_of, over};
+ghost use Rattle.disk_calls.specs.Disk.{Image, bytes_of, over};
 ghost use Rattle.member_disk.specs.Memory.{Held, ImageOf, IsCrashed, IsSizeOf, Surer, done, all_done, has_write, torn_call, torn_last, half, all_a5, seen_of, sure, with_call};
 
-use crate::pieces::Pieces;
+use byte_pieces::Pieces;
 use frame_wire::Octets;
 use std::alloc::{AllocError, Global};
 use std::marker::Model;

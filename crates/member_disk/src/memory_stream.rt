@@ -1,13 +1,13 @@
 ghost use Rattle.std.specs.Prelude.{◌≡◌, ◌≢◌, ◌+◌, ◌≤◌, ◌++◌, ◌∷◌, [], ℕ, Some, None, true, not, filter, length, take, drop, IfOk, OnOk, OnErr, IsSome, IsTrue, ◌↔◌, ◌==◌, ◌-◌, map};
 ghost use Rattle.std.specs.BTreeMap.{get};
-ghost use Rattle.member_disk.specs.Disk.{AreNames, Image, bytes_of};
+ghost use Rattle.disk_calls.specs.Disk.{AreNames, Image, bytes_of};
 ghost use Rattle.member_disk.specs.Memory.{CrashedFile, Held, ImageOf, IsCrashed, IsSizeOf, Surer, seen_of, sure, with_call, held_at};
-ghost use Rattle.member_disk.specs.FileNames.{same, without, last_of};
+ghost use Rattle.member_disk.specs.FilesInOrder.{same, without, last_of};
 ghost use Rattle.member_disk.specs.Streams.{Moves, Stays, Crashes, stream_of, no_files, names_there};
 ghost use Rattle.member_disk.specs.Settings.{falls_due, after_call};
 
-use crate::file_id::{FileId, FileName};
 use crate::memory_file::{Call, MemoryFile};
+use disk_calls::{FileId, FileName};
 use frame_wire::Row;
 use std::alloc::{AllocError, Global};
 use std::collections::BTreeMap;
@@ -39,7 +39,7 @@ fn count_down(settings: &mut Vec<u64>) -> bool
     due
 }
 
-#[tactic(auto, unfolding(crate::specs::FileNames::same))]
+#[tactic(auto, unfolding(crate::specs::FilesInOrder::same))]
 fn is_same(a: FileName, b: FileName) -> bool
     ensures is { result ≡ same a b }
     ensures equal { IsTrue result ↔ (a ≡ b) }

@@ -1,10 +1,10 @@
 -- Files that stay as they are on the disk while others change.
 use Rattle.std.proofs.Common.{◌≡◌, ◌≢◌, ℕ, List, ◌++◌, length, Some, refl, ◌∙◌, ap}
-use Rattle.member_disk.specs.Disk.{DiskState, Image, bytes_of, over, Changes, Looks, Only, Settled}
-use Rattle.member_disk.specs.declared.file_id.FileId.{FileId}
-use Rattle.member_disk.specs.declared.disk.DiskDid.{DiskDid}
-use Rattle.member_disk.specs.declared.disk.DiskDid.TheVariants as did
-use Rattle.member_disk.proofs.Chain.{settled_length, over_end, synced}
+use Rattle.disk_calls.specs.Disk.{DiskState, Image, bytes_of, over, Changes, Looks, Only, Settled}
+use Rattle.disk_calls.specs.declared.file_id.FileId.{FileId}
+use Rattle.disk_calls.specs.declared.disk.DiskDid.{DiskDid}
+use Rattle.disk_calls.specs.declared.disk.DiskDid.TheVariants as did
+use Rattle.disk_calls.proofs.Chain.{settled_length, over_end, synced}
 
 pub did_done : (d : DiskDid) → d ≢ did.Failed → d ≡ did.Done
 did_done did.Done ne = refl

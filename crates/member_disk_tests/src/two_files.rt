@@ -1,5 +1,5 @@
 ghost use Rattle.std.specs.Prelude.{◌≡◌, ◌≢◌, ◌⊎◌, ◌++◌, List, ℕ, length};
-ghost use Rattle.member_disk.specs.Disk.{Image, HasCause, Longer, Settled};
+ghost use Rattle.disk_calls.specs.Disk.{Image, HasCause, Longer, Settled};
 
 use member_disk::{Disk, DiskDid, FileId};
 

@@ -1,6 +1,6 @@
 use Rattle.std.proofs.Common.{◌≡◌, ◌∷◌, [], ◌++◌, List, ℕ, length, take, drop, refl, ap, ◌∙◌, arith}
 use Rattle.std.proofs.lemmas.List.{take_at, drop_at, length-take}
-use Rattle.member_disk.specs.Disk.{Image, bytes_of}
+use Rattle.disk_calls.specs.Disk.{Image, bytes_of}
 use Rattle.gated_words.specs.Words.{gate, words}
 use Rattle.gated_words.proofs.Spelling.{length-words, length-spelled}
 use Rattle.gated_words.proofs.Adding.{did_done, words_written, words_sure, within_words, gate_written, gate_sure}

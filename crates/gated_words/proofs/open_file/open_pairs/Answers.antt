@@ -1,5 +1,5 @@
 use Rattle.std.proofs.Common.{◌≤◌, ℕ, List, length, ap, sym, ◌∙◌, subst, arith, rules}
-use Rattle.member_disk.specs.Disk.{bytes_of}
+use Rattle.disk_calls.specs.Disk.{bytes_of}
 use Rattle.gated_words.specs.Words.{Opens}
 use Rattle.gated_words.specs.Looking.{FindsPairs}
 use Rattle.gated_words.proofs.Reading.{no_pairs}

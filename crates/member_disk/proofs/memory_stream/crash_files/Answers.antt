@@ -1,7 +1,7 @@
 use Rattle.std.proofs.Common.{rules}
 use Rattle.std.specs.Map.Iter.{deref_pair}
 use Rattle.std.proofs.lemmas.Map.Iter.{btree_map_turn, rest_more}
-use Rattle.member_disk.specs.contracts.file_id.FileNameOrd.TheImpl.Laws as laws
+use Rattle.disk_calls.specs.contracts.file_id.FileNameOrd.TheImpl.Laws as laws
 use Rattle.member_disk.proofs.CrashLoop.{crash_step, crashed_by}
 use Rattle.member_disk.proofs.memory_stream.crash_files.Goals as goal
 

@@ -2,9 +2,9 @@ use Rattle.std.proofs.Common.{◌≡◌, Some, None}
 use Rattle.std.specs.BTreeMap.{get, is_at}
 use Rattle.std.specs.Map.{lookup}
 use Rattle.member_disk.specs.Memory.{CrashedFile, held_at}
-use Rattle.member_disk.specs.FileNames.{last_of}
-use Rattle.member_disk.specs.declared.file_id.FileName.{FileName}
-use Rattle.member_disk.specs.contracts.file_id.FileNameOrd.TheImpl as ordered
+use Rattle.member_disk.specs.FilesInOrder.{last_of}
+use Rattle.disk_calls.specs.declared.file_id.FileName.{FileName}
+use Rattle.disk_calls.specs.contracts.file_id.FileNameOrd.TheImpl as ordered
 use Rattle.member_disk.proofs.memory_stream.crash_files.Given as goal
 
 -- the files that the loop has passed, and those that are missing

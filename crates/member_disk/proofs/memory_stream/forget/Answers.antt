@@ -1,6 +1,6 @@
 use Rattle.std.proofs.Common.{not, rules}
 use Rattle.std.proofs.lemmas.Fn.{filter_same}
-use Rattle.member_disk.specs.FileNames.{same}
+use Rattle.member_disk.specs.FilesInOrder.{same}
 use Rattle.member_disk.proofs.memory_stream.forget.Goals as goal
 
 pub returns : goal.returns

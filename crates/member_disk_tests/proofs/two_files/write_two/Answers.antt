@@ -1,5 +1,5 @@
 use Rattle.std.proofs.Common.{◌≢◌, inr, sym}
-use Rattle.member_disk.proofs.Chain.{written_longer}
+use Rattle.disk_calls.proofs.Chain.{written_longer}
 use Rattle.member_disk_tests.proofs.Stages.{did_done, place_of, kept, kept_looks, sure_after}
 use Rattle.member_disk_tests.proofs.two_files.write_two.Goals as goal
 

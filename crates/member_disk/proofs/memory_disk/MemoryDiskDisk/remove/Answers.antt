@@ -1,4 +1,4 @@
-use Rattle.member_disk.specs.FileNames.{without}
+use Rattle.member_disk.specs.FilesInOrder.{without}
 use Rattle.member_disk.proofs.DiskCalls.{did_remove, did_remove_missing}
 use Rattle.member_disk.proofs.memory_disk.MemoryDiskDisk.remove.Goals as goal
 

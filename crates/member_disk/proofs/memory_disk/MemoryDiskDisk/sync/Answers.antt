@@ -1,4 +1,4 @@
-use Rattle.member_disk.specs.FileNames.{without}
+use Rattle.member_disk.specs.FilesInOrder.{without}
 use Rattle.member_disk.proofs.DiskCalls.{did_sync}
 use Rattle.member_disk.proofs.memory_disk.MemoryDiskDisk.sync.Goals as goal
 

@@ -1,6 +1,0 @@
-use Rattle.std.proofs.Common.{◌≡◌, length, take}
-use Rattle.member_disk.specs.Joined.{joined}
-use Rattle.member_disk.proofs.pieces.bytes_before.Given as goal
-
-abbrev pub invariant-loop-piece : goal.invariant-loop-piece
-invariant-loop-piece l = l.before ≡ length (joined (take l.piece-index l.full))

@@ -1,9 +1,0 @@
-use Rattle.std.proofs.Common.{◌≡◌, length, take}
-use Rattle.member_disk.specs.Joined.{joined, all_bytes}
-use Rattle.member_disk.proofs.pieces.cut_bytes.Given as goal
-
-abbrev pub invariant-loop-before : goal.invariant-loop-before
-invariant-loop-before l = (l.before ≡ length (joined l.full.items)) × (take l.size (all_bytes l.full.items l.last.items) ≡ take l.size (all_bytes l.fn.full.items l.fn.last.items))
-
-abbrev pub decreases-loop-before : goal.decreases-loop-before
-decreases-loop-before l = length l.full.items
