@@ -3,3 +3,4 @@ pub mod Offsets
 pub mod Properties
 pub mod Tables
 pub mod Sizes
+pub mod Codes

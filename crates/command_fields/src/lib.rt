@@ -1,5 +1,5 @@
-//! What the commands of the RabbitMQ stream protocol share: why a body is no command, where a subscription begins, and
-//! properties.
+//! What the commands of the RabbitMQ stream protocol share: why a body is no command, the response codes, where a
+//! subscription begins, and properties.
 #![tactic(auto)]
 
 mod end;
@@ -7,6 +7,7 @@ mod fault;
 mod laws;
 mod offset;
 mod property;
+mod response;
 mod size;
 mod version;
 
@@ -15,5 +16,6 @@ pub use fault::{DecodeError, DecodeFault};
 pub use laws::shared_fields_are_lawful;
 pub use offset::OffsetSpec;
 pub use property::Property;
+pub use response::ResponseCode;
 pub use size::{GREATEST_BODY, Measured, list_size, text_size};
 pub use version::read_version;
