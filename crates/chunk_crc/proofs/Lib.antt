@@ -1,3 +1,4 @@
-pub mod Table
+pub mod TableRule
 pub mod Steps
 pub mod CrcBound
+pub mod Parts

@@ -2,5 +2,6 @@
 #![tactic(auto)]
 
 mod crc;
+mod tables;
 
 pub use crc::crc32;
