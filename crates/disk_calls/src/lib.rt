@@ -3,8 +3,14 @@
 
 mod disk;
 mod file_id;
+mod laws;
 mod steps;
+mod whole_file;
 
 pub use disk::{Disk, DiskDid, DiskNames, DiskSize};
 pub use file_id::{FileId, FileName};
-pub use steps::{append, shorten};
+pub use laws::{
+    files_stay, frames_join, known_files_agree, known_files_outlast_crashes, known_files_stay,
+};
+pub use steps::{append, make_file, shorten};
+pub use whole_file::{WholeFile, read_file};

@@ -5,3 +5,6 @@ pub mod Streams
 pub mod MemoryDisks
 pub mod TornDone
 pub use Rattle.disk_calls.specs.Disk
+pub use Rattle.disk_calls.specs.FileNames
+pub use Rattle.disk_calls.specs.Frames
+pub use Rattle.disk_calls.specs.Reading

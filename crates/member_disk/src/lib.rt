@@ -8,5 +8,9 @@ mod memory_map;
 mod memory_stream;
 
 pub use dir_disk::DirDisk;
-pub use disk_calls::{Disk, DiskDid, DiskNames, DiskSize, FileId, FileName, append, shorten};
+pub use disk_calls::{
+    Disk, DiskDid, DiskNames, DiskSize, FileId, FileName, WholeFile, append, files_stay,
+    frames_join, known_files_agree, known_files_outlast_crashes, known_files_stay, make_file,
+    read_file, shorten,
+};
 pub use memory_disk::MemoryDisk;
