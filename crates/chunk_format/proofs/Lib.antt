@@ -14,5 +14,7 @@ pub mod ReadLaws
 pub mod OneFault
 pub mod RowLaws
 pub mod LinkLaws
+pub mod BeginLaws
+pub mod UserLaws
 pub mod StoredLaws
 pub mod FieldLaws

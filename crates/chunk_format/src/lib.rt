@@ -26,7 +26,7 @@ pub use encode::{encode_chunk, put_header};
 pub use entry::{Entry, put_entry};
 pub use fault::ChunkFault;
 pub use field::{HeaderFault, chunk_fields_are_lawful, read_header};
-pub use laws::one_chunk_more;
+pub use laws::{beginnings_of_one_log, one_chunk_more, user_chunks_above_an_offset};
 pub use put::{put_delta, put_snapshot, put_tag};
 pub use split::{EntryParts, split_entry};
 pub use stored::Stored;
