@@ -16,5 +16,6 @@ pub mod RowLaws
 pub mod LinkLaws
 pub mod BeginLaws
 pub mod UserLaws
+pub mod NameLaws
 pub mod StoredLaws
 pub mod FieldLaws

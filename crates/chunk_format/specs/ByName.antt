@@ -35,6 +35,12 @@ ids_of name chunks = flat_map (λ (row : LogRow). id_by name row.tag) (Rows chun
 abbrev pub Greatest : List ℕ → List Chunk → Option ℕ
 Greatest name chunks = reduce max (ids_of name chunks)
 
+-- the greater of two, where there are any
+abbrev pub greater : Option ℕ → Option ℕ → Option ℕ
+greater None other = other
+greater (Some id) None = Some id
+greater (Some id) (Some other) = Some (max id other)
+
 -- an id is at most the greatest; none is where there is no greatest
 abbrev pub AtMost : ℕ → Option ℕ → Type 0
 AtMost id None = ⊥

@@ -8,7 +8,7 @@ use Rattle.chunk_format.specs.declared.chunk.Chunk.{Chunk}
 use Rattle.chunk_format.specs.Chunks.{end_of_chunk, IsChunk}
 use Rattle.chunk_format.specs.Tags.{Tag}
 use Rattle.chunk_format.specs.LogRows.{LogRow, Rows}
-pub use Rattle.chunk_format.specs.ByName.{same_name, id_by, ids_of, Greatest, AtMost, tag_name, tag_names, delta_in, delta_by, chunk_deltas, deltas_of, offset_by, offsets_of, LastStored, stored_name, stored_names, first_seen, has_id, first_with, sequence_item, offset_item, sequence_items, offset_items, snapshot_items, snapshot_body, snapshot_entry_of, RisesIn}
+pub use Rattle.chunk_format.specs.ByName.{same_name, id_by, ids_of, Greatest, greater, AtMost, tag_name, tag_names, delta_in, delta_by, chunk_deltas, deltas_of, offset_by, offsets_of, LastStored, stored_name, stored_names, first_seen, has_id, first_with, sequence_item, offset_item, sequence_items, offset_items, snapshot_items, snapshot_body, snapshot_entry_of, RisesIn}
 
 -- b begins with a
 abbrev pub GoesOn : {A : Type 0} → List A → List A → Type 0
