@@ -1,7 +1,9 @@
--- Beginnings of lists, and of logs.
-use Rattle.std.proofs.Common.{◌≡◌, ℕ, ◌+◌, ◌≤◌, ◌<◌, ◌⊎◌, List, [], ◌∷◌, ◌++◌, length, refl, sym, ap, ◌∙◌, subst, arith, append_assoc, inl, inr}
-use Rattle.std.proofs.lemmas.List.{append-nil}
+-- Beginnings of lists, of logs, and of bytes that a chunk begins.
+use Rattle.std.proofs.Common.{◌≡◌, ℕ, ◌+◌, ◌≤◌, ◌<◌, ◌⊎◌, List, [], ◌∷◌, ◌++◌, length, refl, sym, ap, ◌∙◌, subst, arith, append_assoc, length-append, inl, inr}
+use Rattle.std.proofs.lemmas.List.{append-nil, take-append-le}
 use Rattle.chunk_format.specs.declared.chunk.Chunk.{Chunk}
+use Rattle.chunk_format.specs.Chunks.{ChunkSpells}
+use Rattle.chunk_format.specs.Faults.{BeginsWith}
 use Rattle.chunk_format.specs.Logs.{GoesOn, end_of, last_epoch, Linked, IsLog}
 use Rattle.chunk_format.proofs.LinkLaws.{end_join, end_beyond, linked_front, linked_behind}
 
@@ -71,3 +73,10 @@ push_by (x ∷ a) (y ∷ b) c more e =
 
 pub goes_push_cases : (a b : List Chunk) (c : Chunk) → GoesOn a (b ++ c ∷ []) → GoesOn a b ⊎ (a ≡ b ++ c ∷ [])
 goes_push_cases a b c p = push_by a b c p.0 p.1
+
+-- ---- bytes that a chunk begins
+
+-- more bytes behind change nothing
+pub begins_still : (c : Chunk) (used : ℕ) (bytes more : List ℕ) → BeginsWith c used bytes → BeginsWith c used (bytes ++ more)
+begins_still c used bytes more begins =
+    (let long = begins.0 in omega (arith, long, length-append bytes more), subst (ChunkSpells c) (sym (take-append-le used bytes more begins.0)) begins.1)

@@ -12,10 +12,17 @@ pub mod ChunkFound
 pub mod ChunkOnly
 pub mod ReadLaws
 pub mod OneFault
+pub mod NamedRead
 pub mod RowLaws
 pub mod LinkLaws
 pub mod BeginLaws
 pub mod UserLaws
 pub mod NameLaws
+pub mod TagRows
+pub mod DeltaRows
+pub mod SnapshotLaws
+pub mod TruthLaws
+pub mod BareLaws
+pub mod SampleLaws
 pub mod StoredLaws
 pub mod FieldLaws

@@ -29,7 +29,8 @@ begun : (c : Chunk) (used : ℕ) (bytes : List ℕ) → BeginsWith c used bytes 
 begun c used bytes begins =
     (sym (take-append-drop used bytes) ∙ ap (λ (l : List ℕ). l ++ drop used bytes) begins.1.spelled, sym (length-take-le used bytes begins.0) ∙ ap length begins.1.spelled)
 
-same_begun : (c d : Chunk) (n m : ℕ) (bytes : List ℕ) → BeginsWith c n bytes → BeginsWith d m bytes → (c ≡ d) × (n ≡ m)
+-- bytes begin with one chunk alone
+pub same_begun : (c d : Chunk) (n m : ℕ) (bytes : List ℕ) → BeginsWith c n bytes → BeginsWith d m bytes → (c ≡ d) × (n ≡ m)
 same_begun c d n m bytes p q =
     let b = begun c n bytes p in
     let e = begun d m bytes q in

@@ -11,7 +11,7 @@ use Rattle.chunk_format.specs.Tags.{Tag, IsTag, tag_bytes, named_bytes}
 use Rattle.chunk_format.specs.Chunks.{entry_records}
 use Rattle.chunk_format.specs.LogRows.{LogRow, first_tag, after_tag, rows_from}
 use Rattle.chunk_format.proofs.Codes.{named_length, named_number_length}
-use Rattle.chunk_format.proofs.Splitting.{named_second}
+use Rattle.chunk_format.proofs.NamedRead.{named_read}
 
 some_there : (n : ℕ) → 0 < n → eqb n 0 ≡ false
 some_there n some = grind arith
@@ -28,21 +28,9 @@ tag_read trailer t some len name id =
 pub front_tag : (t : Tag) (rest : List ℕ) → IsTag t → (first_tag (tag_bytes t ++ rest) ≡ Some t) × (after_tag (tag_bytes t ++ rest) ≡ rest)
 front_tag t rest f =
     let trailer = tag_bytes t ++ rest in
-    let behind = u64_bytes t.id ++ rest in
-    let flat : trailer ≡ named_bytes 0 t.name ++ behind = append_assoc (named_bytes 0 t.name) (u64_bytes t.id) rest in
-    let len : get_or trailer 1 0 ≡ length t.name = named_second 0 t.name behind trailer f.0.1 flat in
-    let long = named_number_length 0 t.name t.id in
-    let some : 0 < length trailer = omega (arith, length-append (tag_bytes t) rest, long) in
-    let two = u8_bytes 0 ++ u8_bytes (length t.name) in
-    let two_len : length two ≡ 2 = omega (arith, length-append (u8_bytes 0) (u8_bytes (length t.name)), u8_length 0, u8_length (length t.name)) in
-    let parted : trailer ≡ two ++ (t.name ++ behind) =
-    flat ∙ ap (λ (l : List ℕ). l ++ behind) (sym (append_assoc (u8_bytes 0) (u8_bytes (length t.name)) t.name)) ∙ append_assoc two t.name behind in
-    let name : take (length t.name) (drop 2 trailer) ≡ t.name =
-    ap (λ (l : List ℕ). take (length t.name) (drop 2 l)) parted ∙ ap (take (length t.name)) (drop_at two (t.name ++ behind) 2 two_len) ∙ take_at t.name behind (length t.name) refl in
-    let numbers : drop (2 + length t.name) trailer ≡ behind = ap (drop (2 + length t.name)) flat ∙ drop_at (named_bytes 0 t.name) behind (2 + length t.name) (named_length 0 t.name) in
-    let id : from_be_bytes w64 (take 8 (drop (2 + length t.name) trailer)) ≡ t.id =
-    ap (λ (l : List ℕ). from_be_bytes w64 (take 8 l)) numbers ∙ ap (from_be_bytes w64) (take_at (u64_bytes t.id) rest 8 (u64_length t.id)) ∙ u64_back t.id f.1 in
-    (tag_read trailer t some len name id, ap (λ (n : ℕ). drop (10 + n) trailer) len ∙ drop_at (tag_bytes t) rest (10 + length t.name) long)
+    let read = named_read trailer 0 t.name t.id rest (omega arith) f.0 f.1 refl in
+    let some : 0 < length trailer = omega (arith, length-append (tag_bytes t) rest, named_number_length 0 t.name t.id) in
+    (tag_read trailer t some read.len_is read.name_is read.number_is, ap (λ (n : ℕ). drop (10 + n) trailer) read.len_is ∙ read.rest_is)
 
 -- one tag for each entry
 pub tags_of_rows : (entries : List Entry) (tags : List Tag) (offset : ℕ) (trailer : List ℕ) → length tags ≡ length entries → All IsTag tags → trailer ≡ flat_map tag_bytes tags

@@ -4,6 +4,7 @@ pub mod Chunks
 pub mod LogRows
 pub mod ByName
 pub mod Logs
+pub mod Samples
 pub mod Parts
 pub mod Named
 pub mod StoredChunks

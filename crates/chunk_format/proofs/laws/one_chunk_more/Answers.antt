@@ -2,6 +2,8 @@ use Rattle.std.proofs.Common.{ℕ, List, ◌∷◌, []}
 use Rattle.chunk_format.specs.declared.chunk.Chunk.{Chunk}
 use Rattle.chunk_format.proofs.LinkLaws.{end_push, epoch_push, linked_push}
 use Rattle.chunk_format.proofs.NameLaws.{greatest_join, stored_join, rises_in_join}
+use Rattle.chunk_format.proofs.SnapshotLaws.{items_stay_snapshot}
+use Rattle.chunk_format.proofs.TruthLaws.{truthful_push}
 use Rattle.chunk_format.proofs.laws.one_chunk_more.Goals as goal
 
 pub returns : goal.returns
@@ -12,4 +14,6 @@ returns c = record {
   greatest = λ name chunks d. greatest_join name chunks (d ∷ []);
   stored = λ name chunks d. stored_join name chunks (d ∷ []);
   rises = λ chunks d. rises_in_join chunks (d ∷ []);
+  truthful = truthful_push;
+  snapshot = items_stay_snapshot;
 }
