@@ -1,10 +1,10 @@
 -- Beginnings of lists, of logs, and of bytes that a chunk begins.
-use Rattle.std.proofs.Common.{◌≡◌, ℕ, ◌+◌, ◌≤◌, ◌<◌, ◌⊎◌, List, [], ◌∷◌, ◌++◌, length, refl, sym, ap, ◌∙◌, subst, arith, append_assoc, length-append, inl, inr}
+use Rattle.std.proofs.Common.{◌≡◌, ℕ, ◌≤◌, ◌⊎◌, List, [], ◌∷◌, ◌++◌, refl, sym, ap, ◌∙◌, subst, arith, append_assoc, length-append, inl, inr}
 use Rattle.std.proofs.lemmas.List.{append-nil, take-append-le}
 use Rattle.chunk_format.specs.declared.chunk.Chunk.{Chunk}
 use Rattle.chunk_format.specs.Chunks.{ChunkSpells}
 use Rattle.chunk_format.specs.Faults.{BeginsWith}
-use Rattle.chunk_format.specs.Logs.{GoesOn, end_of, last_epoch, Linked, IsLog}
+use Rattle.chunk_format.specs.Logs.{GoesOn, end_of, last_epoch, IsLog}
 use Rattle.chunk_format.proofs.LinkLaws.{end_join, end_beyond, linked_front, linked_behind}
 
 pub goes_same : {A : Type 0} (a : List A) → GoesOn a a

@@ -1,18 +1,16 @@
 -- What the delta chunks of a list say.
-use Rattle.std.proofs.Common.{◌≡◌, ℕ, ◌+◌, ◌^◌, ◌<◌, Bool, true, false, cond, eqb, List, [], ◌∷◌, ◌++◌, length, get_or, take, drop, Option, Some, None, refl, sym, ap, subst, ◌∙◌, arith}
+use Rattle.std.proofs.Common.{◌≡◌, ℕ, ◌+◌, ◌^◌, ◌<◌, Bool, true, false, cond, eqb, List, [], ◌∷◌, ◌++◌, length, get_or, take, drop, refl, sym, ap, subst, ◌∙◌, arith}
 use Rattle.std.specs.Int.{w64, from_be_bytes}
 use Rattle.std.specs.List.{flat_map, AllByRecursion}
 use Rattle.std.proofs.lemmas.List.{append-nil}
 use Rattle.frame_wire.specs.Fields.{u64_bytes}
-use Rattle.chunk_format.specs.declared.entry.Entry.{Entry}
-use Rattle.chunk_format.specs.declared.entry.Entry.TheVariants.{Simple}
 use Rattle.chunk_format.specs.declared.chunk.ChunkKind.{ChunkKind}
 use Rattle.chunk_format.specs.declared.chunk.ChunkKind.TheVariants.{User, Delta, Snapshot}
 use Rattle.chunk_format.specs.declared.chunk.Chunk.{Chunk}
 use Rattle.chunk_format.specs.Tags.{IsName, named_bytes, DeltaEntry, DeltaSequence, DeltaOffset, IsDelta, SpellsDelta}
 use Rattle.chunk_format.specs.Chunks.{IsOneSimple, HoldsByKind, IsChunk}
 use Rattle.chunk_format.specs.ByName.{same_name, delta_in, delta_by, chunk_deltas, deltas_of, offset_by, offsets_of, stored_name, stored_names}
-use Rattle.chunk_format.proofs.NamedRead.{NamedRead, named_read}
+use Rattle.chunk_format.proofs.NamedRead.{named_read}
 use Rattle.chunk_format.proofs.NameLaws.{each_join}
 
 abbrev made : Bool → List ℕ → ℕ → DeltaEntry

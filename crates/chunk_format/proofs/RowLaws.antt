@@ -1,16 +1,13 @@
 -- The tags of the rows of a chunk are those of its trailer.
-use Rattle.std.proofs.Common.{◌≡◌, ℕ, ◌+◌, ◌<◌, List, [], ◌∷◌, ◌++◌, length, get_or, take, drop, map, Bool, false, cond, eqb, Option, Some, None, refl, sym, ap, ◌∙◌, append_assoc, arith, length-append}
+use Rattle.std.proofs.Common.{◌≡◌, ℕ, ◌+◌, ◌<◌, List, [], ◌∷◌, ◌++◌, length, get_or, take, drop, map, Bool, false, cond, eqb, Option, Some, None, refl, ap, ◌∙◌, arith, length-append}
 use Rattle.std.specs.Int.{w64, from_be_bytes}
 use Rattle.std.specs.List.{flat_map, All}
-use Rattle.std.proofs.lemmas.List.{take_at, drop_at}
 use Rattle.std.proofs.lemmas.List.Elements.{All-head, All-tail}
-use Rattle.frame_wire.specs.Fields.{u8_bytes, u64_bytes}
-use Rattle.frame_wire.proofs.FieldLaws.{u8_length, u64_length, u64_back}
 use Rattle.chunk_format.specs.declared.entry.Entry.{Entry}
-use Rattle.chunk_format.specs.Tags.{Tag, IsTag, tag_bytes, named_bytes}
+use Rattle.chunk_format.specs.Tags.{Tag, IsTag, tag_bytes}
 use Rattle.chunk_format.specs.Chunks.{entry_records}
 use Rattle.chunk_format.specs.LogRows.{LogRow, first_tag, after_tag, rows_from}
-use Rattle.chunk_format.proofs.Codes.{named_length, named_number_length}
+use Rattle.chunk_format.proofs.Codes.{named_number_length}
 use Rattle.chunk_format.proofs.NamedRead.{named_read}
 
 some_there : (n : ℕ) → 0 < n → eqb n 0 ≡ false

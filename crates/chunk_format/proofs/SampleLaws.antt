@@ -2,10 +2,10 @@
 use Rattle.std.proofs.Common.{◌≡◌, ℕ, ◌<◌, List, [], ◌∷◌, ◌++◌, get_or, Some, None, refl, ap, arith}
 use Rattle.frame_wire.specs.Fields.{u8_bytes, u64_bytes}
 use Rattle.chunk_format.specs.declared.entry.Entry.{Entry}
-use Rattle.chunk_format.specs.declared.entry.Entry.TheVariants.{Simple, Batch}
-use Rattle.chunk_format.specs.declared.chunk.ChunkKind.TheVariants.{User, Delta, Snapshot}
+use Rattle.chunk_format.specs.declared.entry.Entry.TheVariants.{Simple}
+use Rattle.chunk_format.specs.declared.chunk.ChunkKind.TheVariants.{Snapshot}
 use Rattle.chunk_format.specs.declared.chunk.Chunk.{Chunk}
-use Rattle.chunk_format.specs.ByName.{Greatest, LastStored, ids_of, snapshot_items, snapshot_entry_of, RisesIn}
+use Rattle.chunk_format.specs.ByName.{Greatest, LastStored, snapshot_items, RisesIn}
 use Rattle.chunk_format.specs.Logs.{users_above, next_above, Truthful}
 use Rattle.chunk_format.specs.Samples.{p_name, c_name, d_name, p_tagged, stores, untagged, snapshot_at, said, said_items, other_items}
 use Rattle.chunk_format.proofs.TruthLaws.{truthful_none, truthful_push, truthful_last}

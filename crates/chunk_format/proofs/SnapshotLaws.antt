@@ -1,24 +1,23 @@
 -- What a snapshot lists: after a chunk that says nothing by name, and that it has a spelling.
-use Rattle.std.proofs.Common.{◌≡◌, ℕ, ◌+◌, ◌≤◌, ◌^◌, ◌<◌, ◌≢◌, max, Bool, true, false, cond, not, ◌==◌, filter, List, [], ◌∷◌, ◌++◌, map, length, Option, Some, None, unwrap_or, refl, sym, ap, subst, ◌∙◌, arith}
+use Rattle.std.proofs.Common.{◌≡◌, ℕ, ◌+◌, ◌^◌, ◌<◌, max, Bool, true, false, cond, not, ◌==◌, filter, List, [], ◌∷◌, ◌++◌, map, length, Option, Some, None, unwrap_or, refl, ap, ◌∙◌, arith}
 use Rattle.std.specs.Prelude.{ℤ}
 use Rattle.std.specs.Int.{w64}
 use Rattle.std.specs.Int.RustNames.{FitsSigned}
-use Rattle.std.specs.List.{flat_map, find, fold, reduce, last_or, list_any, All, AllByRecursion}
+use Rattle.std.specs.List.{find, fold, reduce, last_or, list_any, All, AllByRecursion}
 use Rattle.std.specs.Option.{option_map, option_or}
 use Rattle.std.proofs.lemmas.List.{append-nil}
 use Rattle.std.proofs.lemmas.List.Elements.{All-from_recursion, recursion_from_All, All-cons, All-nil}
 use Rattle.std.proofs.lemmas.List.Folds.{find-append}
 use Rattle.chunk_format.specs.declared.entry.Entry.{Entry}
 use Rattle.chunk_format.specs.declared.entry.Entry.TheVariants.{Simple}
-use Rattle.chunk_format.specs.declared.chunk.ChunkKind.{ChunkKind}
 use Rattle.chunk_format.specs.declared.chunk.ChunkKind.TheVariants.{Snapshot}
 use Rattle.chunk_format.specs.declared.chunk.Chunk.{Chunk}
 use Rattle.chunk_format.specs.Tags.{IsName, SnapshotEntry, SnapshotSequence, SnapshotOffset, IsSnapshot}
-use Rattle.chunk_format.specs.Chunks.{IsEntry, HasRecords, entries_bytes, entry_bytes, end_of_chunk, IsChunk}
-use Rattle.chunk_format.specs.ByName.{same_name, first_seen, ids_of, Greatest, tag_names, has_id, first_with, sequence_item, sequence_items, offsets_of, LastStored, stored_names, offset_item, offset_items, snapshot_items, snapshot_body}
+use Rattle.chunk_format.specs.Chunks.{IsEntry, HasRecords, entry_bytes, IsChunk}
+use Rattle.chunk_format.specs.ByName.{same_name, first_seen, ids_of, Greatest, tag_names, has_id, first_with, sequence_item, sequence_items, offsets_of, stored_names, offset_item, offset_items, snapshot_items, snapshot_body}
 use Rattle.chunk_format.specs.Logs.{end_of, opening_chunk}
 use Rattle.chunk_format.proofs.Sizes.{simple_length}
-use Rattle.chunk_format.proofs.NameLaws.{ids_join, tag_names_join, greatest_join, offsets_join, stored_names_join, each_join}
+use Rattle.chunk_format.proofs.NameLaws.{ids_join, tag_names_join, offsets_join, stored_names_join, each_join}
 use Rattle.chunk_format.proofs.TagRows.{Untagged, untagged_snapshot, tag_names_right, ids_fit}
 use Rattle.chunk_format.proofs.DeltaRows.{Unstored, unstored_snapshot, stored_names_right, offsets_fit}
 

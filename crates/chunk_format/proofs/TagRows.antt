@@ -1,5 +1,5 @@
 -- The tags of the rows of a chunk, and of a list of chunks.
-use Rattle.std.proofs.Common.{◌≡◌, ℕ, ◌+◌, ◌^◌, ◌<◌, ◌⊎◌, Bool, true, false, cond, List, [], ◌∷◌, ◌++◌, length, map, Option, Some, None, refl, sym, ap, subst, ◌∙◌, arith, inl, inr}
+use Rattle.std.proofs.Common.{◌≡◌, ℕ, ◌^◌, ◌<◌, Bool, true, false, cond, List, [], ◌∷◌, ◌++◌, length, map, Option, Some, None, refl, sym, ap, subst, ◌∙◌, inl, inr}
 use Rattle.std.specs.List.{flat_map, All, AllByRecursion}
 use Rattle.std.proofs.lemmas.List.{append-nil, map-append}
 use Rattle.std.proofs.lemmas.List.Elements.{All-weaker, recursion_from_All}
@@ -13,7 +13,7 @@ use Rattle.chunk_format.specs.Chunks.{HoldsByKind, IsChunk}
 use Rattle.chunk_format.specs.LogRows.{LogRow, Rows, chunk_rows, rows_by_kind, rows_from}
 use Rattle.chunk_format.specs.ByName.{same_name, id_by, ids_of, tag_name, tag_names}
 use Rattle.chunk_format.proofs.RowLaws.{tags_of_rows, no_tags_of_rows}
-use Rattle.chunk_format.proofs.NameLaws.{same_decides, same_self, rows_join, each_join, each_map}
+use Rattle.chunk_format.proofs.NameLaws.{same_decides, each_join}
 
 abbrev pub tag_of_row : LogRow → Option Tag
 tag_of_row row = row.tag

@@ -1,5 +1,5 @@
 -- A small list of chunks, and two wrong ones, to see what the words of `Logs` and `ByName` give.
-use Rattle.std.specs.Prelude.{ℕ, pos, List, [], ◌∷◌, ◌++◌}
+use Rattle.std.specs.Prelude.{ℕ, pos, List, [], ◌∷◌}
 use Rattle.chunk_format.specs.declared.entry.Entry.{Entry}
 use Rattle.chunk_format.specs.declared.entry.Entry.TheVariants.{Simple}
 use Rattle.chunk_format.specs.declared.chunk.ChunkKind.{ChunkKind}

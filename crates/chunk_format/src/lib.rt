@@ -27,7 +27,9 @@ pub use entry::{Entry, put_entry};
 pub use fault::ChunkFault;
 pub use field::{HeaderFault, chunk_fields_are_lawful, read_header};
 pub use laws::{
-    a_small_list_says, an_opening_chunk_is_truthful, beginnings_of_one_log, bytes_begin_with_one_chunk, entries_without_a_tag_stay, names_stand_where_they_are_first, one_chunk_more, rows_have_the_tags_of_their_trailer, user_chunks_above_an_offset,
+    a_small_list_says, an_opening_chunk_is_truthful, beginnings_of_one_log,
+    bytes_begin_with_one_chunk, entries_without_a_tag_stay, names_stand_where_they_are_first,
+    one_chunk_more, rows_have_the_tags_of_their_trailer, user_chunks_above_an_offset,
 };
 pub use put::{put_delta, put_snapshot, put_tag};
 pub use split::{EntryParts, split_entry};

@@ -1,4 +1,4 @@
-use Rattle.std.proofs.Common.{subst, sym, ℕ, List}
+use Rattle.std.proofs.Common.{subst, sym, List}
 use Rattle.chunk_format.specs.declared.chunk.Chunk.{Chunk}
 use Rattle.chunk_format.specs.Logs.{HasRun, AtMost, Greatest, RisesIn}
 use Rattle.chunk_format.proofs.LinkLaws.{run_left}

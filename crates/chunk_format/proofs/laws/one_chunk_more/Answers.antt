@@ -1,5 +1,4 @@
-use Rattle.std.proofs.Common.{ℕ, List, ◌∷◌, []}
-use Rattle.chunk_format.specs.declared.chunk.Chunk.{Chunk}
+use Rattle.std.proofs.Common.{◌∷◌, []}
 use Rattle.chunk_format.proofs.LinkLaws.{end_push, epoch_push, linked_push}
 use Rattle.chunk_format.proofs.NameLaws.{greatest_join, stored_join, rises_in_join}
 use Rattle.chunk_format.proofs.SnapshotLaws.{items_stay_snapshot}
