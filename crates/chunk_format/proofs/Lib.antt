@@ -24,5 +24,6 @@ pub mod SnapshotLaws
 pub mod TruthLaws
 pub mod BareLaws
 pub mod SampleLaws
-pub mod StoredLaws
+pub mod FrontLaws
+pub mod BackLaws
 pub mod FieldLaws

@@ -10,11 +10,12 @@ use Rattle.chunk_format.specs.declared.fault.ChunkFault.{ChunkFault}
 use Rattle.chunk_format.specs.declared.decode.ReadChunk.{ReadChunk}
 use Rattle.chunk_format.specs.declared.decode.ChunkError.{ChunkError}
 use Rattle.chunk_format.specs.declared.decode.ChunkError.TheVariants.{Fault, Memory}
+use Rattle.chunk_format.specs.declared.stored.ReadStored.{ReadStored}
 use Rattle.chunk_format.specs.Items.{NoneAtFront}
 use Rattle.chunk_format.specs.Tags as tags
 use Rattle.chunk_format.specs.Chunks.{entry_bytes, IsEntry, entries_bytes, header_of, chunk_bytes}
 use Rattle.chunk_format.specs.Faults.{HeaderStands, HeaderWrong, whole_len, payload_of, trailer_of, IsChunkEntry, AreEntries, SpellsEntries, ChunkWrong, BeginsWith, HeadsChunk}
-use Rattle.chunk_format.specs.Reads.{Reads, ReadsThis}
+use Rattle.chunk_format.specs.Reads.{Reads, ReadsThis, as_read}
 use Rattle.chunk_format.proofs.ItemLaws.{behind_front, same_items}
 use Rattle.chunk_format.proofs.Codes.{entry_code}
 use Rattle.chunk_format.proofs.Gone.{Gone, gone_start, gone_more, gone_more_front, limited_closed}
@@ -64,6 +65,13 @@ pub told_chunk : (bytes : List ℕ) → ((i : ℕ) → get_or bytes i 0 < 256) �
 told_chunk bytes each (Ok read) found fault wrong = absurd (begun_not_wrong fault read.chunk read.used bytes each found wrong)
 told_chunk bytes each (Err (Fault other)) found fault wrong = ap (λ (f : ChunkFault). Err (Fault f)) (one_fault bytes other fault found wrong)
 told_chunk bytes each (Err Memory) found fault wrong = absurd (begun_not_wrong fault found.0 found.1 bytes each found.2 wrong)
+
+same_error : (result : Result ReadStored ChunkError) (error : ChunkError) → as_read result ≡ Err error → result ≡ Err error
+same_error (Ok read) error e = cc
+same_error (Err other) error e = let same : other ≡ error = cc in ap (λ (x : ChunkError). Err x) same
+
+pub told_stored : (bytes : List ℕ) → ((i : ℕ) → get_or bytes i 0 < 256) → (result : Result ReadStored ChunkError) → Reads bytes (as_read result) → (fault : ChunkFault) → ChunkWrong bytes fault → result ≡ Err (Fault fault)
+told_stored bytes each result found fault wrong = same_error result (Fault fault) (told_chunk bytes each (as_read result) found fault wrong)
 
 -- the header that stands at the front is read, and what is wrong in it is told
 pub reads_header : (bytes : List ℕ) (result : Result Header ChunkFault) → MatchResult result (λ h. HeaderStands h bytes) (HeaderWrong bytes) → (h : Header) → HeaderStands h bytes → result ≡ Ok h

@@ -7,7 +7,7 @@ pub mod Logs
 pub mod Samples
 pub mod Parts
 pub mod Named
-pub mod StoredChunks
+pub mod ReadBack
 pub mod Faults
 pub mod Reads
 pub mod ChunkFields

@@ -4,6 +4,7 @@ use Rattle.chunk_format.specs.declared.chunk.Chunk.{Chunk}
 use Rattle.chunk_format.specs.declared.decode.ReadChunk.{ReadChunk}
 use Rattle.chunk_format.specs.declared.decode.ChunkError.{ChunkError}
 use Rattle.chunk_format.specs.declared.decode.ChunkError.TheVariants.{Fault, Memory}
+use Rattle.chunk_format.specs.declared.stored.ReadStored.{ReadStored}
 use Rattle.chunk_format.specs.Faults.{ChunkWrong, BeginsWith}
 
 -- A chunk that was read begins the bytes, and a fault is the first check that fails; memory is wanted only for a chunk that is there.
@@ -17,3 +18,8 @@ abbrev pub ReadsThis : Chunk → ℕ → Result ReadChunk ChunkError → Type 0
 ReadsThis chunk used (Ok read) = (read.chunk ≡ chunk) × (read.used ≡ used)
 ReadsThis chunk used (Err (Fault fault)) = ⊥
 ReadsThis chunk used (Err Memory) = Unit {0}
+
+-- What reading a stored chunk answers, as what reading the chunk answers.
+abbrev pub as_read : Result ReadStored ChunkError → Result ReadChunk ChunkError
+as_read (Ok read) = Ok (record { chunk = read.stored; used = read.used })
+as_read (Err error) = Err error

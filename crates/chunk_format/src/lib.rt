@@ -33,6 +33,6 @@ pub use laws::{
 };
 pub use put::{put_delta, put_snapshot, put_tag};
 pub use split::{EntryParts, split_entry};
-pub use stored::Stored;
+pub use stored::{ReadStored, Stored};
 pub use tracking::{DeltaParts, SnapshotParts, TagParts, split_delta, split_snapshot, split_tag};
 pub use valid::is_chunk;

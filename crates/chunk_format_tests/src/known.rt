@@ -111,6 +111,18 @@ fn chunks_made_by_hand_have_known_bytes(rt: HostRuntime) -> Result<(), Fail> {
     Ok(())
 }
 
+/// The bytes begin with a chunk of so many bytes, which is kept as it stands.
+fn is_stored<R: Abort>(rt: &R, alloc: Global, bytes: &[u8], len: usize) -> Result<(), Fail> {
+    let read = Stored::read(alloc, bytes)?;
+    assert_eq!(rt; read.used, len);
+    let kept = read.stored.bytes();
+    assert_eq!(rt; kept.len(), len);
+    assert!(rt; bytes.starts_with(kept));
+    let header = Header::read(bytes)?;
+    assert_eq!(rt; *read.stored.header(), header);
+    Ok(())
+}
+
 #[test]
 fn known_bytes_are_read_and_written_again(rt: HostRuntime) -> Result<(), Fail> {
     let alloc = rt.alloc();
@@ -121,6 +133,7 @@ fn known_bytes_are_read_and_written_again(rt: HostRuntime) -> Result<(), Fail> {
         let read = decode_chunk(alloc, bytes.as_slice())?;
         assert_eq!(rt; read.used, len, "{text}");
         assert!(rt; check_chunk(bytes.as_slice()).is_ok(), "{text}");
+        is_stored(&rt, alloc, bytes.as_slice(), len)?;
         has_bytes(&rt, alloc, &read.chunk, text)?;
     }
     Ok(())

@@ -9,7 +9,7 @@ use Rattle.chunk_format.specs.Chunks.{entry_bytes, entry_records, IsEntry}
 use Rattle.chunk_format.specs.Items.{NoneAtFront}
 use Rattle.chunk_format.specs.Faults.{IsChunkEntry}
 use Rattle.chunk_format.proofs.Codes.{entry_code}
-use Rattle.chunk_view.specs.ReadBack.{first_entry, after_entry, BeginsEntry, entries_at, AreLeft}
+use Rattle.chunk_format.specs.ReadBack.{first_entry, after_entry, BeginsEntry, entries_at, AreLeft}
 use Rattle.chunk_view.specs.Shown.{EntryShown, shown, shown_from, entry_body}
 
 -- an entry that was split off the front is the one that is read there

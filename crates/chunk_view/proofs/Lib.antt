@@ -1,4 +1,3 @@
-pub mod FrontLaws
 pub mod LeftLaws
 pub mod ShownLaws
 pub mod PlaceLaws

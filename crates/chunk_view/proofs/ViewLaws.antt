@@ -1,5 +1,5 @@
 -- A view's bytes give back the chunk with which the bytes began.
-use Rattle.std.proofs.Common.{◌≡◌, ℕ, ◌+◌, ◌^◌, ◌<◌, List, [], length, get_or, take, Result, Ok, Err, MatchResult, refl, sym, ap, subst, ◌∙◌}
+use Rattle.std.proofs.Common.{◌≡◌, ℕ, ◌+◌, ◌^◌, ◌<◌, List, [], length, get_or, Result, Ok, Err, MatchResult, refl, sym, ap, subst, ◌∙◌}
 use Rattle.std.proofs.lemmas.List.{append-nil}
 use Rattle.chunk_format.specs.declared.entry.Entry.{Entry}
 use Rattle.chunk_format.specs.declared.chunk.Header.{Header}
@@ -8,42 +8,13 @@ use Rattle.chunk_format.specs.declared.fault.ChunkFault.{ChunkFault}
 use Rattle.chunk_format.specs.declared.decode.ReadChunk.{ReadChunk}
 use Rattle.chunk_format.specs.declared.decode.ChunkError.{ChunkError}
 use Rattle.chunk_format.specs.declared.decode.ChunkError.TheVariants.{Fault}
-use Rattle.chunk_format.specs.Chunks.{entries_bytes, records_of, header_of, chunk_bytes, IsChunk, ChunkSpells}
-use Rattle.chunk_format.specs.Faults.{whole_len, payload_of, trailer_of, SpellsEntries, ChunkWrong, BeginsWith, HeadsChunk}
-use Rattle.chunk_format.proofs.ChunkFound.{chunk_with}
+use Rattle.chunk_format.specs.Chunks.{entries_bytes, records_of, chunk_bytes}
+use Rattle.chunk_format.specs.Faults.{whole_len, payload_of, trailer_of, SpellsEntries, ChunkWrong, BeginsWith}
 use Rattle.chunk_format.proofs.ChunkLaws.{chunk_length}
 use Rattle.chunk_format.proofs.ChunkOnly.{payload_at, chunk_entries}
 use Rattle.chunk_format.proofs.ReadLaws.{only_chunk, told_chunk}
-use Rattle.chunk_view.specs.ReadBack.{entries_at, chunk_at, IsViewed, AreLeft}
+use Rattle.chunk_format.specs.ReadBack.{entries_at, chunk_at, IsViewed, AreLeft}
 use Rattle.chunk_view.specs.Shown.{shown_from, shown_entries}
-use Rattle.chunk_view.proofs.FrontLaws.{entries_back}
-
-chunk_back : (c : Chunk) (bytes : List ℕ) → IsChunk c → bytes ≡ chunk_bytes c → chunk_at (header_of c) bytes ≡ c
-chunk_back c bytes is spelled =
-    let at = payload_at c [] bytes (spelled ∙ sym (append-nil (chunk_bytes c))) in
-    let entries : entries_at (length c.entries) (payload_of (header_of c) bytes) ≡ c.entries = entries_back (length c.entries) c.entries (payload_of (header_of c) bytes) refl is.each at.0 in
-    ap (λ (es : List Entry). chunk_with (header_of c) es (trailer_of (header_of c) bytes)) entries ∙ ap (λ (l : List ℕ). chunk_with (header_of c) c.entries l) at.1
-
--- the view of all bytes of a chunk
-pub viewed_whole : (h : Header) (bytes : List ℕ) (c : Chunk) → ChunkSpells c bytes → h ≡ header_of c → IsViewed h bytes
-viewed_whole h bytes c spells heads =
-    let same : chunk_at h bytes ≡ c = ap (λ (g : Header). chunk_at g bytes) heads ∙ chunk_back c bytes spells.is_chunk spells.spelled in
-    (subst (λ (x : Chunk). ChunkSpells x bytes) (sym same) spells, heads ∙ ap header_of (sym same))
-
--- the view of a chunk with which bytes begin
-pub record Opened (h : Header) (bytes whole : List ℕ) : Type 0 where
-  pub viewed : IsViewed h whole
-  pub begins : BeginsWith (chunk_at h whole) (whole_len h) bytes
-
-pub opened : (h : Header) (bytes whole : List ℕ) → HeadsChunk h bytes → whole ≡ take (whole_len h) bytes → Opened h bytes whole
-opened h bytes whole heads is =
-    let c = heads.0 in
-    let spells : ChunkSpells c whole = subst (λ (l : List ℕ). ChunkSpells c l) (sym is) heads.1.1 in
-    let same : chunk_at h whole ≡ c = ap (λ (g : Header). chunk_at g whole) heads.2 ∙ chunk_back c whole spells.is_chunk spells.spelled in
-    record {
-      viewed = viewed_whole h whole c spells heads.2;
-      begins = subst (λ (x : Chunk). BeginsWith x (whole_len h) bytes) (sym same) heads.1;
-    }
 
 -- the parts of a view's bytes
 pub record Parts (h : Header) (bytes : List ℕ) (c : Chunk) : Type 0 where

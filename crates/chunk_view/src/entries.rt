@@ -21,7 +21,7 @@ pub struct EntryViews<'a> {
 impl<'a> Model for EntryViews<'a> {
     ghost use Rattle.std.specs.Prelude.{List};
     ghost use Rattle.chunk_view.specs.Shown.{EntryShown, shown_from};
-    ghost use Rattle.chunk_view.specs.ReadBack.{entries_at, AreLeft};
+    ghost use Rattle.chunk_format.specs.ReadBack.{entries_at, AreLeft};
 
     ghost Value = { List EntryShown };
 

@@ -2,7 +2,7 @@
 
 ghost use Rattle.std.specs.Prelude.{◌≡◌};
 ghost use Rattle.chunk_format.specs.Parts.{entry_of};
-ghost use Rattle.chunk_view.specs.ReadBack.{first_entry, BeginsEntry};
+ghost use Rattle.chunk_format.specs.ReadBack.{first_entry, BeginsEntry};
 ghost use Rattle.chunk_view.specs.Shown.{entry_body, shown, shown_by};
 
 use chunk_format::{EntryParts, split_entry};

@@ -25,7 +25,7 @@ pub struct ChunkView<'a> {
 
 impl<'a> Model for ChunkView<'a> {
     ghost use Rattle.chunk_format.specs.declared.chunk.Chunk.{Chunk};
-    ghost use Rattle.chunk_view.specs.ReadBack.{chunk_at, IsViewed};
+    ghost use Rattle.chunk_format.specs.ReadBack.{chunk_at, IsViewed};
 
     ghost Value = { Chunk };
 
@@ -77,7 +77,7 @@ impl<'a> ChunkView<'a> {
 
     /// The view of a stored chunk, which was checked before.
     pub fn of_stored(stored: &'a Stored) -> ChunkView<'a>
-        ensures { ChunkSpells result stored.now.bytes }
+        ensures { result ≡ stored.now }
     {
         ChunkView {
             header: *stored.header(),

@@ -11,7 +11,7 @@ use Rattle.chunk_format.specs.declared.entry.Entry.{Entry}
 use Rattle.chunk_format.specs.declared.entry.Entry.TheVariants.{Simple, Batch}
 use Rattle.chunk_format.specs.Chunks.{batch_code, entry_bytes, IsEntry}
 use Rattle.chunk_format.proofs.ChunkLaws.{part_at}
-use Rattle.chunk_view.specs.ReadBack.{u16_at, u32_at, simple_at, batch_at, first_entry, after_entry, entries_at}
+use Rattle.chunk_format.specs.ReadBack.{u16_at, u32_at, simple_at, batch_at, first_entry, after_entry, entries_at}
 
 is_less : (n m : ℕ) → n < m → nat_lt n m ≡ true
 is_less n m less = grind arith
