@@ -3,12 +3,14 @@
 
 mod disk;
 mod file_id;
+mod file_text;
 mod laws;
 mod steps;
 mod whole_file;
 
 pub use disk::{Disk, DiskDid, DiskNames, DiskSize};
 pub use file_id::{FileId, FileName};
+pub use file_text::{file_of, name_of};
 pub use laws::{
     files_stay, frames_join, known_files_agree, known_files_outlast_crashes, known_files_stay,
 };
