@@ -1,0 +1,6 @@
+pub mod Tails
+pub mod Members
+pub mod MemberSteps
+pub mod Coordinators
+pub mod Scripts
+pub mod Offers
