@@ -8,7 +8,7 @@ use Rattle.std.proofs.lemmas.Grind.{common_steps, flat_map-append}
 use Rattle.frame_wire.specs.declared.stream.StreamEnd.{StreamEnd}
 use Rattle.frame_wire.specs.declared.stream.StreamEnd.TheVariants as ends
 use Rattle.frame_wire.specs.Fields.{u32_bytes}
-use Rattle.frame_wire.specs.Frames.{frame, size_of, IsPartial, IsTooLarge, IsBody, stream_of, Frames, TooBig}
+use Rattle.frame_wire.specs.Frames.{frame, size_of, IsPartial, IsTooLarge, IsBody, stream_of, Frames, TooBig, BeginsFrame}
 use Rattle.frame_wire.specs.Cutting.{Held, IsStuck, fed, CutsStream}
 use Rattle.frame_wire.proofs.FieldLaws.{u32_length, u32_same, same_front as same_lists}
 use Rattle.frame_wire.proofs.FieldFormats.{wide32, number_first}
@@ -37,27 +37,37 @@ each_more max bodies body each le = All-append (IsBody max) bodies (body ∷ [])
 -- ---- no other frames
 
 -- no whole frame of at most max bytes stands at the front
-abbrev NoFrame : ℕ → List ℕ → Type 0
-NoFrame max rest = (body more : List ℕ) → length body ≤ max → rest ≡ frame body ++ more → ⊥
+abbrev pub NoFrame : ℕ → List ℕ → Type 0
+NoFrame max rest = BeginsFrame max rest → ⊥
 
-partial_none : (max : ℕ) → max < 2 ^ 32 → (rest : List ℕ) → IsPartial max rest → NoFrame max rest
-partial_none max small rest (inl short) body more le e = let l : length rest ≡ 4 + length body + length more = ap length e ∙ frame_length body more in omega arith
-partial_none max small rest (inr p) body more le e =
-    let l : length rest ≡ 4 + length body + length more = ap length e ∙ frame_length body more in
-    let size : size_of rest ≡ length body = ap size_of e ∙ size_of_frame body more (omega arith) in
-    let short = p.1 in
-    omega arith
+-- the length and the size of bytes that begin with a frame
+begins_long : (greatest : ℕ) → greatest < 2 ^ 32 → (rest : List ℕ) (b : BeginsFrame greatest rest) → (4 + length b.body ≤ length rest) × (size_of rest ≡ length b.body)
+begins_long greatest small rest b =
+    let fits = b.fits in
+    (let l : length rest ≡ 4 + length b.body + length b.more = ap length b.framed ∙ frame_length b.body b.more in omega arith, ap size_of b.framed ∙ size_of_frame b.body b.more (omega arith))
 
-large_none : (max : ℕ) → max < 2 ^ 32 → (rest : List ℕ) (size : ℕ) → IsTooLarge max rest size → NoFrame max rest
-large_none max small rest size large body more le e =
-    let is : size_of rest ≡ length body = ap size_of e ∙ size_of_frame body more (omega arith) in
+partial_begins : (max greatest : ℕ) → greatest < 2 ^ 32 → (rest : List ℕ) → IsPartial max rest → NoFrame greatest rest
+partial_begins max greatest small rest (inl short) b = let long = begins_long greatest small rest b in let l = long.0 in omega arith
+partial_begins max greatest small rest (inr p) b = let long = begins_long greatest small rest b in let l = long.0 in let is = long.1 in let short = p.1 in omega arith
+
+pub large_begins : (max : ℕ) → max < 2 ^ 32 → (rest : List ℕ) (size : ℕ) → IsTooLarge max rest size → NoFrame max rest
+large_begins max small rest size large b =
+    let long = begins_long max small rest b in
+    let is = long.1 in
+    let fits = b.fits in
     let is_size = large.is_size in
     let above = large.above in
     omega arith
 
+pub no_frame_behind : (max : ℕ) (stream : List ℕ) (bodies : List (List ℕ)) (rest : List ℕ) → Frames max stream bodies rest → BeginsFrame 4294967295 rest → ⊥
+no_frame_behind max stream bodies rest h = partial_begins max 4294967295 (omega arith) rest h.partial
+
+pub no_frame_at_large : (max : ℕ) (stream : List ℕ) (bodies : List (List ℕ)) (rest : List ℕ) (size : ℕ) → max < 2 ^ 32 → TooBig max stream bodies rest size → BeginsFrame max rest → ⊥
+no_frame_at_large max stream bodies rest size small h = large_begins max small rest size h.large
+
 end_none : (max : ℕ) → max < 2 ^ 32 → (stream : List ℕ) (bodies : List (List ℕ)) (rest : List ℕ) (end : StreamEnd) → CutsStream max stream bodies rest end → NoFrame max rest
-end_none max small stream bodies rest ends.Open h = partial_none max small rest h.partial
-end_none max small stream bodies rest (ends.TooLarge size) h = large_none max small rest size h.large
+end_none max small stream bodies rest ends.Open h = partial_begins max max small rest h.partial
+end_none max small stream bodies rest (ends.TooLarge size) h = large_begins max small rest size h.large
 
 end_parts : (max : ℕ) (stream : List ℕ) (bodies : List (List ℕ)) (rest : List ℕ) (end : StreamEnd) → CutsStream max stream bodies rest end → (stream ≡ stream_of bodies rest) × All (IsBody max) bodies
 end_parts max stream bodies rest ends.Open h = (h.whole, h.each)
@@ -78,8 +88,8 @@ same_front a b x y fits_a fits_b e =
 one_reading : (max : ℕ) → max < 2 ^ 32 → (xs ys : List (List ℕ)) (a b : List ℕ) → All (IsBody max) xs → All (IsBody max) ys → NoFrame max a → NoFrame max b
     → stream_of xs a ≡ stream_of ys b → (xs ≡ ys) × (a ≡ b)
 one_reading max small [] [] a b p q h k e = (refl, e)
-one_reading max small [] (y ∷ ys) a b p q h k e = absurd (h y (stream_of ys b) (All-head (IsBody max) y ys q) (e ∙ append_assoc (frame y) (flat_map frame ys) b))
-one_reading max small (x ∷ xs) [] a b p q h k e = absurd (k x (stream_of xs a) (All-head (IsBody max) x xs p) (sym e ∙ append_assoc (frame x) (flat_map frame xs) a))
+one_reading max small [] (y ∷ ys) a b p q h k e = absurd (h (record { body = y; more = stream_of ys b; fits = All-head (IsBody max) y ys q; framed = e ∙ append_assoc (frame y) (flat_map frame ys) b }))
+one_reading max small (x ∷ xs) [] a b p q h k e = absurd (k (record { body = x; more = stream_of xs a; fits = All-head (IsBody max) x xs p; framed = sym e ∙ append_assoc (frame x) (flat_map frame xs) a }))
 one_reading max small (x ∷ xs) (y ∷ ys) a b p q h k e =
     let le_x = All-head (IsBody max) x xs p in
     let le_y = All-head (IsBody max) y ys q in

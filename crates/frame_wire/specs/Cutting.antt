@@ -1,5 +1,5 @@
 -- What a cutter of a stream holds, and what its calls do.
-use Rattle.std.specs.Prelude.{◌≡◌, ◌≤◌, ℕ, ◌+◌, List, [], ◌++◌, length, take, drop}
+use Rattle.std.specs.Prelude.{◌≡◌, ℕ, ◌+◌, List, [], ◌++◌, length, drop}
 use Rattle.frame_wire.specs.declared.cutter.Front.{Front}
 use Rattle.frame_wire.specs.declared.cutter.Front.TheVariants as looks
 use Rattle.frame_wire.specs.declared.cutter.Cut.{Cut}
@@ -8,30 +8,29 @@ use Rattle.frame_wire.specs.declared.stream.StreamEnd.{StreamEnd}
 use Rattle.frame_wire.specs.declared.stream.StreamEnd.TheVariants as ends
 use Rattle.frame_wire.specs.Frames.{frame, size_of, IsPartial, IsTooLarge, IsBody, Frames, TooBig}
 
--- the greatest size, the body of the last frame, the bytes that no frame was cut from yet, and the length of the buffer
+-- the greatest size, the body of the last frame, and the bytes that no frame was cut from yet
 pub record Held : Type 0 where
   pub max : ℕ
   pub body : List ℕ
   pub rest : List ℕ
-  pub kept : ℕ
 
 -- a size above the greatest stands in a frame's place
 abbrev pub IsStuck : Held → Type 0
 IsStuck held = IsTooLarge held.max held.rest (size_of held.rest)
 
--- The piece stands behind what was left, and nothing else is kept.
+-- the piece stands behind what was left, and no last body is kept
 abbrev pub fed : Held → List ℕ → Held
-fed held piece = record { max = held.max; body = []; rest = held.rest ++ piece; kept = length (held.rest ++ piece) }
+fed held piece = record { max = held.max; body = []; rest = held.rest ++ piece }
 
 -- what one cut does
 abbrev pub Cuts : Held → Cut → Held → Type 0
-Cuts old Frame new = (old.rest ≡ frame new.body ++ new.rest) × IsBody old.max new.body × (new.max ≡ old.max) × (new.kept ≡ old.kept)
+Cuts old Frame new = (old.rest ≡ frame new.body ++ new.rest) × IsBody old.max new.body × (new.max ≡ old.max)
 Cuts old More new = IsPartial old.max old.rest × (new ≡ old)
 Cuts old (TooLarge size) new = IsTooLarge old.max old.rest size × (new ≡ old)
 
--- what stands at the front of the bytes
+-- what stands at the front of bytes
 abbrev pub Looks : ℕ → List ℕ → Front → Type 0
-Looks max rest (looks.Whole len) = (rest ≡ frame (take len (drop 4 rest)) ++ drop len (drop 4 rest)) × (len ≤ max) × (4 + len ≤ length rest) × (len ≡ size_of rest)
+Looks max rest (looks.Frame body) = (rest ≡ frame body.now ++ drop (4 + length body.now) rest) × IsBody max body.now
 Looks max rest looks.More = IsPartial max rest
 Looks max rest (looks.TooLarge size) = IsTooLarge max rest size
 

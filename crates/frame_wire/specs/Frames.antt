@@ -39,3 +39,10 @@ pub record TooBig (max : ℕ) (stream : List ℕ) (bodies : List (List ℕ)) (re
   pub whole : stream ≡ stream_of bodies rest
   pub each : All (IsBody max) bodies
   pub large : IsTooLarge max rest size
+
+-- a whole frame of at most so many bytes of body stands at the front
+pub record BeginsFrame (greatest : ℕ) (bytes : List ℕ) : Type 0 where
+  pub body : List ℕ
+  pub more : List ℕ
+  pub fits : IsBody greatest body
+  pub framed : bytes ≡ frame body ++ more

@@ -1,31 +1,38 @@
 //! Why a field could not be read, or a text not made.
 
 use std::alloc::AllocError;
+use thiserror::Error;
 
 /// What is wrong with a field, with the place of its first byte.
-#[derive(Clone, Copy, Debug, PartialEq, Eq)]
+#[derive(Clone, Copy, Debug, PartialEq, Eq, Error)]
 pub enum FieldFault {
     /// Fewer bytes are left than the field has.
+    #[error("the field ends early, at {place}")]
     Short { place: usize },
     /// A length is below -1, or a count below 0.
+    #[error("negative length, at {place}")]
     Negative { place: usize },
 }
 
 /// Why no text was made.
-#[derive(Clone, Copy, Debug, PartialEq, Eq)]
+#[derive(Clone, Copy, Debug, PartialEq, Eq, Error)]
 pub enum TextFault {
     /// There are more than 32,767 bytes: this many.
+    #[error("a text of {len} bytes is too long")]
     TooLong { len: usize },
     /// Memory ran out.
+    #[error("memory ran out")]
     Memory,
 }
 
 /// Why a value that takes memory could not be read.
-#[derive(Clone, Copy, Debug, PartialEq, Eq)]
+#[derive(Clone, Copy, Debug, PartialEq, Eq, Error)]
 pub enum ReadError {
     /// A field is wrong.
+    #[error("wrong field: {0}")]
     Fault(FieldFault),
     /// Memory ran out.
+    #[error("memory ran out")]
     Memory,
 }
 

@@ -1,9 +1,9 @@
 //! What stands in lists, and one reader and one writer for lists of any of it.
 
-ghost use Rattle.std.specs.Prelude.{◌≡◌, ◌++◌, List, ℕ, Result, OnOk, OnErr, IfErr, IfSome, length, take};
+ghost use Rattle.std.specs.Prelude.{◌≡◌, ◌++◌, List, ℕ, Result, OnOk, OnErr, IfErr, length, take};
 ghost use Rattle.frame_wire.specs.declared.fault.FieldFault.{FieldFault};
 ghost use Rattle.frame_wire.specs.Formats.{Format};
-ghost use Rattle.frame_wire.specs.Joins.{list_at, items_at, list_bytes, IsList, absent_at, absent_bytes};
+ghost use Rattle.frame_wire.specs.Joins.{list_at, items_at, list_bytes, IsList};
 ghost use Rattle.frame_wire.specs.Items.{same_fault, Gives};
 
 use crate::fault::{FieldFault, ReadError};
@@ -14,7 +14,7 @@ use crate::scan::Scan;
 use crate::text::Text;
 use std::alloc::{AllocError, Global};
 
-/// A value with a format, that can stand in a list or be absent as a whole. A struct's is `mapped` of its fields' formats.
+/// A value with a format, that can stand in a list. A struct's is `mapped` of its fields' formats.
 pub trait Item: Drop {
     ghost format: { Format Self FieldFault };
 
@@ -123,41 +123,4 @@ pub fn put_list<T: Item>(out: &mut Octets, items: &Row<T>) -> Result<(), AllocEr
         }
     }
     Ok(())
-}
-
-/// Reads a last value, unless nothing is left. After an error the scan stands where it stood.
-pub fn read_content<'a, T: Item>(alloc: Global, scan: &mut Scan<'a>) -> Result<Option<T>, ReadError>
-    ensures read { Gives result scan.new (absent_at T.format.read scan.old) }
-    ensures unmoved { IfErr result (λ _. scan.new ≡ scan.old) }
-{
-    if scan.rest().is_empty() {
-        return Ok(None);
-    }
-    let start = scan.fork();
-    match T::read(alloc, scan) {
-        Ok(content) => Ok(Some(content)),
-        Err(error) => {
-            *scan = start;
-            Err(error)
-        }
-    }
-}
-
-/// Adds a last value, if there is one. After an error the list is as it was.
-pub fn put_content<T: Item>(out: &mut Octets, content: &Option<T>) -> Result<(), AllocError>
-    requires { IfSome content.now T.format.Fits }
-    ensures ok { OnOk result (out.new ≡ out.old ++ absent_bytes T.format.spell content.now) }
-    ensures err { OnErr result (out.new ≡ out.old) }
-{
-    let Some(content) = content else {
-        return Ok(());
-    };
-    let before = out.len();
-    match content.put(out) {
-        Ok(()) => Ok(()),
-        Err(refused) => {
-            out.cut(before);
-            Err(refused)
-        }
-    }
 }

@@ -2,8 +2,9 @@
 
 ghost use Rattle.frame_wire.specs.Formats.{u8_field, u16_field, u32_field, u64_field, i64_field, text_field, blob_field, count_field};
 ghost use Rattle.frame_wire.specs.Laws.{Lawful, LawfulLast, OneOutcome};
+ghost use Rattle.frame_wire.specs.Frames.{BeginsFrame, Frames, TooBig};
 ghost use Rattle.frame_wire.specs.Joins.{◌then◌, list, or_absent, to_end, end_of, within, mapped};
-ghost use Rattle.std.specs.Prelude.{◌≡◌, ◌<◌, ℕ, length};
+ghost use Rattle.std.specs.Prelude.{◌≡◌, ◌<◌, ◌^◌, ℕ, List, length};
 ghost use Rattle.frame_wire.specs.declared.fault.FieldFault.{FieldFault};
 
 use crate::item::Item;
@@ -51,4 +52,11 @@ pub fn ends_are_lawful<A: Item, B: Item>()
     ensures to_end { LawfulLast (to_end {F = FieldFault}) }
     ensures end { (long : ℕ → FieldFault) → LawfulLast (end_of long) }
     ensures behind { Lawful A.format → LawfulLast B.format → LawfulLast (A.format then B.format) }
+{}
+
+/// What is left behind the frames of a stream begins with no whole frame: of any size below 4 GiB where it is open, and of
+/// at most `max` bytes of body where a size above `max` stands there. It does nothing.
+pub fn rests_begin_no_frame()
+    ensures behind_frames { (max : ℕ) (stream : List ℕ) (bodies : List (List ℕ)) (rest : List ℕ) → Frames max stream bodies rest → BeginsFrame 4294967295 rest → ⊥ }
+    ensures at_a_large_size { (max : ℕ) (stream : List ℕ) (bodies : List (List ℕ)) (rest : List ℕ) (size : ℕ) → max < 2 ^ 32 → TooBig max stream bodies rest size → BeginsFrame max rest → ⊥ }
 {}

@@ -15,10 +15,13 @@ mod scan;
 mod stream;
 mod text;
 
-pub use cutter::{Cut, Cutter};
+pub use cutter::{Cut, Cutter, Front};
 pub use fault::{FieldFault, ReadError, TextFault};
-pub use item::{Item, put_content, put_list, read_content, read_list};
-pub use laws::{ends_are_lawful, fields_are_lawful, fields_have_one_outcome, joins_are_lawful};
+pub use item::{Item, put_list, read_list};
+pub use laws::{
+    ends_are_lawful, fields_are_lawful, fields_have_one_outcome, joins_are_lawful,
+    rests_begin_no_frame,
+};
 pub use limits::Limits;
 pub use octets::Octets;
 pub use put::{put_blob, put_i64, put_text, put_u8, put_u16, put_u32, put_u64};

@@ -3,7 +3,7 @@ ghost use Rattle.std.specs.Option.{option_copied};
 ghost use Rattle.frame_wire.specs.Fields.{IsText};
 
 use crate::fault::TextFault;
-use std::alloc::Global;
+use std::alloc::{AllocError, Global};
 use std::marker::Model;
 
 /// A text of at most 32,767 bytes, or null. It need not be UTF-8. Null and the empty text are two values.
@@ -59,4 +59,48 @@ impl Text {
             Some(bytes) => Some(bytes.as_slice()),
         }
     }
+}
+
+impl Clone for Text {
+    ghost use Rattle.std.specs.Prelude.{◌≡◌};
+
+    ghost is_clone = { λ text copy. copy ≡ text };
+
+    fn clone(&self) -> Result<Text, AllocError> {
+        match &self.bytes {
+            None => Ok(Text::null()),
+            Some(bytes) => {
+                let copied = Vec::from_slice(*bytes.allocator(), bytes.as_slice())?;
+                Ok(Text {
+                    bytes: Some(copied),
+                })
+            }
+        }
+    }
+}
+
+impl PartialEq for Text {
+    ghost use Rattle.std.specs.Prelude.{◌==◌};
+    ghost use Rattle.std.specs.Option.{option_eq};
+    ghost use Rattle.std.specs.Cmp.Lexicographic.{pointwise};
+    ghost use Rattle.std.specs.Cmp.Rules.{comparing};
+    ghost use Rattle.std.proofs.Common.{rules};
+
+    ghost eq = { option_eq (pointwise (λ a b. a == b)) };
+
+    ghost laws = { Prim.search (comparing, rules) };
+
+    fn eq(&self, other: &Text) -> bool {
+        self.get() == other.get()
+    }
+}
+
+impl Eq for Text {
+    ghost use Rattle.std.specs.Prelude.{◌==◌};
+    ghost use Rattle.std.specs.Option.{option_eq};
+    ghost use Rattle.std.specs.Cmp.Lexicographic.{pointwise};
+    ghost use Rattle.std.specs.Cmp.Rules.{comparing};
+    ghost use Rattle.std.proofs.Common.{rules};
+
+    ghost laws = { Prim.search (comparing, rules) };
 }

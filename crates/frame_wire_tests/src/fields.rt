@@ -1,6 +1,6 @@
 use frame_wire::{
-    FieldFault, Limits, Octets, Row, Scan, Text, TextFault, fields_are_lawful,
-    fields_have_one_outcome, put_blob, put_i64, put_text, put_u8, put_u16, put_u32, put_u64,
+    FieldFault, Octets, Row, Scan, Text, TextFault, fields_are_lawful, fields_have_one_outcome,
+    put_blob, put_i64, put_text, put_u8, put_u16, put_u32, put_u64,
 };
 use std::test::Fail;
 
@@ -152,8 +152,30 @@ fn a_row_keeps_its_order(rt: HostRuntime) -> Result<(), Fail> {
     assert_eq!(rt; row.into_vec().as_slice(), [3, 1, 2].as_slice());
     let copied = Octets::copy(rt.alloc(), b"ab")?;
     assert!(rt; copied == Octets::copy(rt.alloc(), b"ab")?);
-    assert_eq!(rt; Limits::standard().streams, 16);
     fields_are_lawful();
     fields_have_one_outcome();
+    Ok(())
+}
+
+#[test]
+fn texts_are_copied_and_compared(rt: HostRuntime) -> Result<(), Fail> {
+    let mut texts = Row::new(rt.alloc());
+    let Ok(()) = texts.push(Text::null()) else {
+        return Err(Fail::from("no room"));
+    };
+    for bytes in [b"".as_slice(), b"ab".as_slice(), b"ac".as_slice()] {
+        let Ok(text) = Text::copy(rt.alloc(), bytes) else {
+            return Err(Fail::from("no text"));
+        };
+        let Ok(()) = texts.push(text) else {
+            return Err(Fail::from("no room"));
+        };
+    }
+    for (i, text) in texts.as_slice().iter().enumerate() {
+        let copied = text.clone()?;
+        for (k, other) in texts.as_slice().iter().enumerate() {
+            assert_eq!(rt; copied == *other, i == k, "{i} and {k}");
+        }
+    }
     Ok(())
 }

@@ -1,4 +1,4 @@
-use frame_wire::{Cut, Cutter, Octets, Row, StreamEnd, frames_of};
+use frame_wire::{Cut, Cutter, Front, Octets, Row, StreamEnd, frames_of, rests_begin_no_frame};
 use std::test::Fail;
 
 // Three frames: two bytes, none, one; then the first three bytes of a size.
@@ -58,9 +58,14 @@ fn a_body_stands_until_the_next_feed(rt: HostRuntime) -> Result<(), Fail> {
     cutter.feed(&OPEN[8..])?;
     assert_eq!(rt; cutter.body(), b"".as_slice());
     for body in [b"".as_slice(), b"c".as_slice()] {
+        let Front::Frame { body: first } = cutter.front() else {
+            return Err(Fail::from("no frame in front"));
+        };
+        assert_eq!(rt; first, body);
         assert_eq!(rt; cutter.next(), Cut::Frame);
         assert_eq!(rt; cutter.body(), body);
     }
+    rests_begin_no_frame();
     assert_eq!(rt; cutter.next(), Cut::More);
     Ok(())
 }

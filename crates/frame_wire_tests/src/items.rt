@@ -1,6 +1,6 @@
 use frame_wire::{
     FieldFault, Item, Octets, ReadError, Row, Scan, Text, ends_are_lawful, joins_are_lawful,
-    put_content, put_list, put_u64, read_content, read_list,
+    put_list, put_u64, read_list,
 };
 use std::alloc::{AllocError, Global};
 use std::test::Fail;
@@ -94,20 +94,7 @@ fn a_list_is_refused_at_its_wrong_field(rt: HostRuntime) {
 }
 
 #[test]
-fn a_content_may_be_absent(rt: HostRuntime) -> Result<(), Fail> {
-    for (bytes, want) in [(b"".as_slice(), None), (&[0, 7], Some(7u16))] {
-        let mut scan = Scan::new(bytes);
-        let Ok(content) = read_content::<u16>(rt.alloc(), &mut scan) else {
-            return Err(Fail::from("no content"));
-        };
-        assert_eq!(rt; content, want);
-        let mut out = Octets::new(rt.alloc());
-        put_content(&mut out, &content)?;
-        assert_eq!(rt; out.as_slice(), bytes);
-    }
-    let half = read_content::<u64>(rt.alloc(), &mut Scan::new(&[0]));
-    assert!(rt; half == Err(ReadError::Fault(FieldFault::Short { place: 0 })));
+fn laws_hold_of_these_items() {
     joins_are_lawful::<u16, Named, u8>();
     ends_are_lawful::<u64, Text>();
-    Ok(())
 }

@@ -2,8 +2,12 @@
 #![tactic(auto)]
 
 #[cfg(test)]
+mod faults;
+#[cfg(test)]
 mod fields;
 #[cfg(test)]
 mod frames;
 #[cfg(test)]
 mod items;
+#[cfg(test)]
+mod limits;

@@ -1,4 +1,4 @@
-use Rattle.std.proofs.Common.{[], List, ℕ, ap, ◌∙◌}
+use Rattle.std.proofs.Common.{[], List, ℕ, ap, ◌∙◌, arith}
 use Rattle.frame_wire.specs.Cutting.{fed}
 use Rattle.frame_wire.proofs.Cutting.{held, feeds, not_stuck}
 use Rattle.frame_wire.proofs.cutter.Cutter.feed.Goals as goal
@@ -10,4 +10,8 @@ returns-clause-fed c =
 
 pub returns-clause-stuck : goal.returns-clause-stuck
 returns-clause-stuck c =
-    λ stuck. absurd (not_stuck c.self.inside.bytes.items c.self.inside.at c.self.inside.body_at c.self.inside.max c.args.self.now c.look.result c.self.view_is (rw c.as_slice.ensures.value at c.look.ensures) c.in_default.not-TooLarge stuck)
+    λ stuck. absurd (not_stuck c.self.inside.bytes.items c.self.inside.at c.self.inside.body_at c.self.inside.max (omega arith) c.args.self.now c.look.result c.self.view_is (rw c.as_slice.ensures.value at c.look.ensures) c.in_default.not-TooLarge stuck)
+
+pub returns-in_err-extend_from_slice-clause-stuck : goal.returns-in_err-extend_from_slice-clause-stuck
+returns-in_err-extend_from_slice-clause-stuck c =
+    λ stuck. absurd (not_stuck c.self.inside.bytes.items c.self.inside.at c.self.inside.body_at c.self.inside.max (omega arith) c.args.self.now c.look.result c.self.view_is (rw c.as_slice.ensures.value at c.look.ensures) c.in_default.not-TooLarge stuck)
