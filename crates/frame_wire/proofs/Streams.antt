@@ -46,7 +46,7 @@ begins_long greatest small rest b =
     let fits = b.fits in
     (let l : length rest ≡ 4 + length b.body + length b.more = ap length b.framed ∙ frame_length b.body b.more in omega arith, ap size_of b.framed ∙ size_of_frame b.body b.more (omega arith))
 
-partial_begins : (max greatest : ℕ) → greatest < 2 ^ 32 → (rest : List ℕ) → IsPartial max rest → NoFrame greatest rest
+pub partial_begins : (max greatest : ℕ) → greatest < 2 ^ 32 → (rest : List ℕ) → IsPartial max rest → NoFrame greatest rest
 partial_begins max greatest small rest (inl short) b = let long = begins_long greatest small rest b in let l = long.0 in omega arith
 partial_begins max greatest small rest (inr p) b = let long = begins_long greatest small rest b in let l = long.0 in let is = long.1 in let short = p.1 in omega arith
 
@@ -85,6 +85,10 @@ same_front a b x y fits_a fits_b e =
     let sizes = u32_same (length a) (length b) (a ++ x) (b ++ y) fits_a fits_b spread in
     same_lists a b x y sizes.0 sizes.1
 
+-- bytes begin with one frame
+pub same_frames : (max : ℕ) → max < 2 ^ 32 → (bytes : List ℕ) (b d : BeginsFrame max bytes) → (b.body ≡ d.body) × (b.more ≡ d.more)
+same_frames max small bytes b d = let fits_b = b.fits in let fits_d = d.fits in same_front b.body d.body b.more d.more (omega arith) (omega arith) (sym b.framed ∙ d.framed)
+
 one_reading : (max : ℕ) → max < 2 ^ 32 → (xs ys : List (List ℕ)) (a b : List ℕ) → All (IsBody max) xs → All (IsBody max) ys → NoFrame max a → NoFrame max b
     → stream_of xs a ≡ stream_of ys b → (xs ≡ ys) × (a ≡ b)
 one_reading max small [] [] a b p q h k e = (refl, e)
@@ -97,7 +101,7 @@ one_reading max small (x ∷ xs) (y ∷ ys) a b p q h k e =
     let rest = one_reading max small xs ys a b (All-tail (IsBody max) x xs p) (All-tail (IsBody max) y ys q) h k parts.1 in
     (ap (λ (z : List ℕ). z ∷ xs) parts.0 ∙ ap (λ (z : List (List ℕ)). y ∷ z) rest.0, rest.1)
 
-not_both : (max : ℕ) (rest : List ℕ) (size : ℕ) → IsPartial max rest → IsTooLarge max rest size → ⊥
+pub not_both : (max : ℕ) (rest : List ℕ) (size : ℕ) → IsPartial max rest → IsTooLarge max rest size → ⊥
 not_both max rest size (inl short) large = let whole = large.whole in omega arith
 not_both max rest size (inr p) large = let le = p.0 in let is = large.is_size in let above = large.above in omega arith
 
@@ -127,15 +131,15 @@ cuts_then max stream piece xs ys mid rest end f h =
     ended max (mid ++ piece) (stream ++ piece) ys (xs ++ ys) rest end h whole (All-append (IsBody max) xs ys f.each parts.1)
 
 -- behind a size above the greatest any bytes may follow
+pub large_after : (max : ℕ) (rest more : List ℕ) (size : ℕ) → IsTooLarge max rest size → IsTooLarge max (rest ++ more) size
+large_after max rest more size large =
+    let four = large.whole in
+    let size_is : size_of (rest ++ more) ≡ size_of rest = ap (from_be_bytes w32) (take-append-le 4 rest more four) in
+    record { whole = omega (arith, length-append rest more); is_size = size_is ∙ large.is_size; above = large.above }
+
 pub large_then : (max : ℕ) (stream more : List ℕ) (bodies : List (List ℕ)) (rest : List ℕ) (size : ℕ) → TooBig max stream bodies rest size → TooBig max (stream ++ more) bodies (rest ++ more) size
 large_then max stream more bodies rest size h =
-    let four = h.large.whole in
-    let size_is : size_of (rest ++ more) ≡ size_of rest = ap (from_be_bytes w32) (take-append-le 4 rest more four) in
-    record {
-      whole = ap (λ (s : List ℕ). s ++ more) h.whole ∙ append_assoc (flat_map frame bodies) rest more;
-      each = h.each;
-      large = record { whole = omega (arith, length-append rest more); is_size = size_is ∙ h.large.is_size; above = h.large.above };
-    }
+    record { whole = ap (λ (s : List ℕ). s ++ more) h.whole ∙ append_assoc (flat_map frame bodies) rest more; each = h.each; large = large_after max rest more size h.large }
 
 -- ---- a list of pieces
 
