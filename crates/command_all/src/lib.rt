@@ -11,4 +11,4 @@ pub use command::Command;
 pub use decode::decode_command;
 pub use encode::{encode_command, fits, frame};
 pub use identity::Identity;
-pub use laws::bodies_have_one_outcome;
+pub use laws::{bodies_have_one_outcome, bytes_have_one_reading};
