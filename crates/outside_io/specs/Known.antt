@@ -1,4 +1,4 @@
--- What a read takes of the bytes that are left, and what a write adds to those written, where they are told.
+-- What is told of an object's past or future, and what reads and writes do to it.
 use Rattle.std.specs.Prelude.{◌≡◌, ℕ, ◌≤◌, ◌<◌, List, [], ◌++◌, length, take, Option, Some, None}
 use Rattle.std.specs.Option.{option_map}
 use Rattle.outside_io.specs.declared.source.Took.{Took}
@@ -6,13 +6,13 @@ use Rattle.outside_io.specs.declared.source.Took.TheVariants as took
 use Rattle.outside_io.specs.declared.sink.Gave.{Gave}
 use Rattle.outside_io.specs.declared.sink.Gave.TheVariants as gave
 
--- bytes, and then those that are told
-abbrev pub before_known : List ℕ → Option (List ℕ) → Option (List ℕ)
-before_known bytes known = option_map (λ rest. bytes ++ rest) known
+-- items, and then those that are told
+abbrev pub before_known : {A : Type 0} → List A → Option (List A) → Option (List A)
+before_known items known = option_map (λ rest. items ++ rest) known
 
--- the bytes that are told, and then some more
-abbrev pub after_known : Option (List ℕ) → List ℕ → Option (List ℕ)
-after_known known bytes = option_map (λ written. written ++ bytes) known
+-- the items that are told, and then some more
+abbrev pub after_known : {A : Type 0} → Option (List A) → List A → Option (List A)
+after_known known items = option_map (λ told. told ++ items) known
 
 -- no byte is there, where that is told
 abbrev pub IsEmptyKnown : Option (List ℕ) → Type 0

@@ -1,5 +1,5 @@
 -- What a read and a write over std do to the reader's bytes left and the writer's bytes held, where those are known.
-use Rattle.std.specs.Prelude.{ℕ, List, take, ⊤, Option}
+use Rattle.std.specs.Prelude.{ℕ, Bool, List, take, ⊤, Option}
 use Rattle.std.specs.Io.KnownBytes.{Appends, Consumes, IsAtEnd, Keeps}
 use Rattle.outside_io.specs.declared.source.Took.{Took}
 use Rattle.outside_io.specs.declared.source.Took.TheVariants as took
@@ -34,3 +34,8 @@ ReadsFrom old took.Failed buf new = Keeps old new
 abbrev pub WritesTo : Option (List ℕ) → Gave → List ℕ → Option (List ℕ) → Type 0
 WritesTo old gave.Done bytes new = Appends old new bytes
 WritesTo old gave.Failed bytes new = ⊤
+
+-- a link over a socket: whether a receive has answered Ended, and how many calls failed
+pub record SocketState : Type 0 where
+  pub has_ended : Bool
+  pub faults : ℕ

@@ -43,6 +43,13 @@ impl FailPlan {
         self.listed.contains(&self.calls)
     }
 
+    /// The calls so far.
+    pub fn calls(&self) -> u64
+        ensures { result ≡ self.now.calls }
+    {
+        self.calls
+    }
+
     /// Counts a failure.
     pub fn count_fault(&mut self)
         ensures later { self.old.faults ≤ self.new.faults }

@@ -36,6 +36,13 @@ impl SureSource {
             at: 0,
         })
     }
+
+    /// The bytes that are left.
+    pub fn rest(&self) -> &[u8]
+        ensures { result.now ≡ self.now }
+    {
+        &self.bytes.as_slice()[self.at..]
+    }
 }
 
 impl Source for SureSource {
