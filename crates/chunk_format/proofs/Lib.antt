@@ -7,6 +7,7 @@ pub mod Splitting
 pub mod Gone
 pub mod TagLaws
 pub mod HeaderLaws
+pub mod IndexLaws
 pub mod EntryLaws
 pub mod ChunkFound
 pub mod ChunkOnly

@@ -1,6 +1,7 @@
 pub mod Items
 pub mod Tags
 pub mod Chunks
+pub mod Index
 pub mod LogRows
 pub mod ByName
 pub mod Logs

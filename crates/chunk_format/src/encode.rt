@@ -1,14 +1,14 @@
 //! Writes chunks.
 
-ghost use Rattle.std.specs.Prelude.{◌≡◌, ◌++◌, IfOk, OnOk};
-ghost use Rattle.std.specs.List.{All};
-ghost use Rattle.chunk_format.specs.Chunks.{IsEntry, entries_bytes, kind_code, kind_bytes, head_bytes, length_bytes, header_bytes, header_of, IsChunk, ChunkSpells};
+ghost use Rattle.std.specs.Prelude.{◌≡◌, ◌+◌, ◌≤◌, ◌++◌, length, drop, replicate, IfOk, OnOk, OnErr};
+ghost use Rattle.chunk_format.specs.Chunks.{entries_bytes, kind_code, header_bytes, header_of, IsChunk, ChunkSpells};
 
 use crate::chunk::{Chunk, ChunkKind, Header};
-use crate::entry::{Entry, put_entry};
-use crate::valid::count_records;
+use crate::entry::push_entry;
+use crate::valid::{count_records, payload_len};
+use bytes::Bytes;
 use chunk_crc::crc32;
-use frame_wire::{Octets, put_i64, put_u8, put_u16, put_u32, put_u64};
+use frame_wire::Octets;
 use std::alloc::{AllocError, Global};
 
 /// Magic 5 in the high four bits, version 0 in the low four.
@@ -18,10 +18,10 @@ const MAGIC: u8 = 0x50;
 #[derive(Drop)]
 pub struct Encoded {
     pub header: Header,
-    pub bytes: Octets,
+    pub bytes: Bytes,
 }
 
-fn code_of(kind: ChunkKind) -> u8
+pub fn code_of(kind: ChunkKind) -> u8
     ensures { result ≡ kind_code kind }
 {
     match kind {
@@ -31,51 +31,47 @@ fn code_of(kind: ChunkKind) -> u8
     }
 }
 
-fn put_kind(out: &mut Octets, kind: ChunkKind) -> Result<(), AllocError>
-    ensures { OnOk result (out.new ≡ out.old ++ kind_bytes kind) }
+/// The 48 bytes of a header.
+#[tactic(auto, unfolding(crate::specs::Chunks::header_bytes, frame_wire::specs::Fields::u8_bytes, frame_wire::specs::Fields::u16_bytes, frame_wire::specs::Fields::u32_bytes, frame_wire::specs::Fields::u64_bytes, frame_wire::specs::Fields::i64_bytes))]
+fn spelled_header(header: &Header) -> [u8; 48]
+    ensures { result ≡ header_bytes header.now }
 {
-    put_u8(out, MAGIC)?;
-    put_u8(out, code_of(kind))
+    let mut bytes = [0; 48];
+    bytes[0] = MAGIC;
+    bytes[1] = code_of(header.kind);
+    bytes[2..4].copy_from_slice(&header.entries.to_be_bytes());
+    bytes[4..8].copy_from_slice(&header.records.to_be_bytes());
+    bytes[8..16].copy_from_slice(&header.stamp.to_be_bytes());
+    bytes[16..24].copy_from_slice(&header.epoch.to_be_bytes());
+    bytes[24..32].copy_from_slice(&header.first.to_be_bytes());
+    bytes[32..36].copy_from_slice(&header.crc.to_be_bytes());
+    bytes[36..40].copy_from_slice(&header.payload_len.to_be_bytes());
+    bytes[40..44].copy_from_slice(&header.trailer_len.to_be_bytes());
+    bytes
 }
 
-fn put_head(out: &mut Octets, header: &Header) -> Result<(), AllocError>
-    ensures { OnOk result (out.new ≡ out.old ++ head_bytes header.now) }
-{
-    put_kind(out, header.kind)?;
-    put_u16(out, header.entries)?;
-    put_u32(out, header.records)?;
-    put_i64(out, header.stamp)
-}
-
-fn put_lengths(out: &mut Octets, header: &Header) -> Result<(), AllocError>
-    ensures { OnOk result (out.new ≡ out.old ++ length_bytes header.now) }
-{
-    put_u32(out, header.crc)?;
-    put_u32(out, header.payload_len)?;
-    put_u32(out, header.trailer_len)?;
-    put_u32(out, 0)
-}
-
-/// Writes the 48 bytes of a header.
-#[tactic(auto, unfolding(crate::specs::Chunks::header_bytes))]
+/// Writes the 48 bytes of a header behind the bytes. Where memory runs out they stay as they were.
 pub fn put_header(out: &mut Octets, header: &Header) -> Result<(), AllocError>
-    ensures { OnOk result (out.new ≡ out.old ++ header_bytes header.now) }
+    ensures ok { OnOk result (out.new ≡ out.old ++ header_bytes header.now) }
+    ensures err { OnErr result (out.new ≡ out.old) }
 {
-    put_head(out, header)?;
-    put_u64(out, header.epoch)?;
-    put_u64(out, header.first)?;
-    put_lengths(out, header)
+    out.push_slice(&spelled_header(header))
 }
 
-fn encode_entries(alloc: Global, entries: &[Entry]) -> Result<Octets, AllocError>
-    requires { All IsEntry entries.now }
-    ensures { IfOk result (λ o. o ≡ entries_bytes entries.now) }
+/// Room for a header, the payload of a chunk, and its trailer.
+fn encode_parts(alloc: Global, chunk: &Chunk, payload_end: usize) -> Result<Vec<u8>, AllocError>
+    requires is_chunk { IsChunk chunk.now }
+    requires payload { payload_end ≡ 48 + length (entries_bytes chunk.now.entries) }
+    ensures { IfOk result (λ v. v.items ≡ replicate 48 0 ++ (entries_bytes chunk.now.entries ++ chunk.now.trailer)) }
 {
-    let mut out = Octets::new(alloc);
-    for entry in entries {
-        put_entry(&mut out, entry)?;
+    let trailer = chunk.trailer.as_slice();
+    let mut bytes = Vec::with_capacity(alloc, payload_end + trailer.len())?;
+    bytes.extend_from_slice(&[0; 48])?;
+    for entry in chunk.entries.as_slice() {
+        push_entry(&mut bytes, entry)?;
     }
-    Ok(out)
+    bytes.extend_from_slice(trailer)?;
+    Ok(bytes)
 }
 
 fn make_header(chunk: &Chunk, payload: &[u8]) -> Header
@@ -96,23 +92,32 @@ fn make_header(chunk: &Chunk, payload: &[u8]) -> Header
     }
 }
 
-/// A chunk's header and all its bytes.
+/// Puts a header in the place of the first 48 bytes.
+fn set_header(bytes: &mut [u8], header: &Header)
+    requires { 48 ≤ length bytes.old }
+    ensures { bytes.new ≡ header_bytes header.now ++ drop 48 bytes.old }
+{
+    bytes[..48].copy_from_slice(&spelled_header(header));
+}
+
+/// A chunk's header and all its bytes, each of which is written once, into the buffer that is shared.
 pub fn encode_whole(alloc: Global, chunk: &Chunk) -> Result<Encoded, AllocError>
     requires { IsChunk chunk.now }
     ensures header { IfOk result (λ e. e.header ≡ header_of chunk.now) }
     ensures bytes { IfOk result (λ e. ChunkSpells chunk.now e.bytes) }
 {
-    let payload = encode_entries(alloc, chunk.entries.as_slice())?;
-    let header = make_header(chunk, payload.as_slice());
-    let mut bytes = Octets::new(alloc);
-    put_header(&mut bytes, &header)?;
-    bytes.push_slice(payload.as_slice())?;
-    bytes.push_slice(chunk.trailer.as_slice())?;
-    Ok(Encoded { header, bytes })
+    let payload_end = 48 + payload_len(chunk.entries.as_slice()) as usize;
+    let mut bytes = encode_parts(alloc, chunk, payload_end)?;
+    let header = make_header(chunk, &bytes.as_slice()[48..payload_end]);
+    set_header(bytes.as_mut_slice(), &header);
+    Ok(Encoded {
+        header,
+        bytes: Bytes::from_vec(bytes)?,
+    })
 }
 
 /// Writes a chunk for which `is_chunk` holds. It fails for want of memory alone.
-pub fn encode_chunk(alloc: Global, chunk: &Chunk) -> Result<Octets, AllocError>
+pub fn encode_chunk(alloc: Global, chunk: &Chunk) -> Result<Bytes, AllocError>
     requires { IsChunk chunk.now }
     ensures { IfOk result (λ b. ChunkSpells chunk.now b) }
 {

@@ -1,11 +1,12 @@
 //! The entries of a chunk.
 
-ghost use Rattle.std.specs.Prelude.{◌≡◌, ◌++◌, ◌<◌, ◌^◌, length, take, OnOk, OnErr};
+ghost use Rattle.std.specs.Prelude.{◌≡◌, ◌++◌, OnOk, OnErr};
 ghost use Rattle.frame_wire.specs.Fields.{u8_bytes, u16_bytes, u32_bytes};
 ghost use Rattle.chunk_format.specs.Chunks.{entry_bytes, IsEntry};
 
-use frame_wire::{Octets, put_u8, put_u16, put_u32};
+use frame_wire::Octets;
 use std::alloc::AllocError;
+use std::marker::Model;
 
 /// What a publisher handed in as one: a message, or a sub-batch of several.
 #[derive(Debug, Drop, PartialEq, Eq)]
@@ -27,39 +28,64 @@ pub enum Entry {
     },
 }
 
-/// Four bytes of length, and the bytes.
-fn put_sized(out: &mut Octets, body: &Octets) -> Result<(), AllocError>
-    requires { length body.now < 2 ^ 32 }
-    ensures ok { OnOk result (out.new ≡ out.old ++ (u32_bytes (length body.now) ++ body.now)) }
-    ensures err { OnErr result (take (length out.old) out.new ≡ out.old) }
-{
-    put_u32(out, body.len() as u32)?;
-    out.push_slice(body.as_slice())
+/// What stands before an entry's body: 4 bytes of a message, 11 of a sub-batch.
+#[derive(Drop)]
+struct EntryHead {
+    bytes: [u8; 11],
+    len: usize,
 }
 
-/// The first byte of a sub-batch, its records and its uncompressed size.
-fn put_batch_head(
-    out: &mut Octets,
-    code: u8,
-    records: u16,
-    uncompressed: u32,
-) -> Result<(), AllocError>
-    ensures ok { OnOk result (out.new ≡ out.old ++ (u8_bytes code ++ (u16_bytes records ++ u32_bytes uncompressed))) }
-    ensures err { OnErr result (take (length out.old) out.new ≡ out.old) }
-{
-    put_u8(out, code)?;
-    put_u16(out, records)?;
-    put_u32(out, uncompressed)
+impl Model for EntryHead {
+    ghost use Rattle.std.specs.Prelude.{List, ℕ, take, ◌≤◌};
+
+    ghost Value = { List ℕ };
+
+    ghost view = { λ h. take h.len h.bytes };
+
+    ghost invariant = { λ h. h.len ≤ 11 };
 }
 
-/// Writes an entry, or a part of it where memory runs out.
-fn put_parts(out: &mut Octets, entry: &Entry) -> Result<(), AllocError>
+impl EntryHead {
+    fn as_slice(&self) -> &[u8]
+        ensures { result.now ≡ self.now }
+    {
+        &self.bytes[..self.len]
+    }
+}
+
+/// The length of a message.
+#[tactic(auto, unfolding(frame_wire::specs::Fields::u32_bytes))]
+fn simple_head(len: u32) -> EntryHead
+    ensures { result ≡ u32_bytes len }
+{
+    let mut bytes = [0; 11];
+    bytes[..4].copy_from_slice(&len.to_be_bytes());
+    EntryHead { bytes, len: 4 }
+}
+
+/// The first byte of a sub-batch, its records, its uncompressed size, and its length.
+#[tactic(auto, unfolding(frame_wire::specs::Fields::u8_bytes, frame_wire::specs::Fields::u16_bytes, frame_wire::specs::Fields::u32_bytes))]
+fn batch_head(code: u8, records: u16, uncompressed: u32, len: u32) -> EntryHead
+    ensures { result ≡ u8_bytes code ++ (u16_bytes records ++ (u32_bytes uncompressed ++ u32_bytes len)) }
+{
+    let mut bytes = [0; 11];
+    bytes[0] = code;
+    bytes[1..3].copy_from_slice(&records.to_be_bytes());
+    bytes[3..7].copy_from_slice(&uncompressed.to_be_bytes());
+    bytes[7..].copy_from_slice(&len.to_be_bytes());
+    EntryHead { bytes, len: 11 }
+}
+
+/// The two parts of an entry's bytes.
+fn head_and_body(entry: &Entry) -> (EntryHead, &[u8])
     requires { IsEntry entry.now }
-    ensures ok { OnOk result (out.new ≡ out.old ++ entry_bytes entry.now) }
-    ensures err { OnErr result (take (length out.old) out.new ≡ out.old) }
+    ensures { entry_bytes entry.now ≡ result.0 ++ result.1.now }
 {
     match entry {
-        Entry::Simple(body) => put_sized(out, body),
+        Entry::Simple(body) => {
+            let body = body.as_slice();
+            (simple_head(body.len() as u32), body)
+        }
         Entry::Batch {
             compression,
             spare,
@@ -68,10 +94,21 @@ fn put_parts(out: &mut Octets, entry: &Entry) -> Result<(), AllocError>
             body,
         } => {
             let code = 128 + *compression * 16 + *spare;
-            put_batch_head(out, code, *records, *uncompressed)?;
-            put_sized(out, body)
+            let body = body.as_slice();
+            let head = batch_head(code, *records, *uncompressed, body.len() as u32);
+            (head, body)
         }
     }
+}
+
+/// Writes an entry behind the bytes, or a part of it where memory runs out.
+pub fn push_entry(out: &mut Vec<u8>, entry: &Entry) -> Result<(), AllocError>
+    requires { IsEntry entry.now }
+    ensures { OnOk result (out.new.items ≡ out.old.items ++ entry_bytes entry.now) }
+{
+    let (head, body) = head_and_body(entry);
+    out.extend_from_slice(head.as_slice())?;
+    out.extend_from_slice(body)
 }
 
 /// Writes an entry behind the bytes. Where memory runs out they stay as they were.
@@ -81,7 +118,9 @@ pub fn put_entry(out: &mut Octets, entry: &Entry) -> Result<(), AllocError>
     ensures err { OnErr result (out.new ≡ out.old) }
 {
     let before = out.len();
-    match put_parts(out, entry) {
+    let (head, body) = head_and_body(entry);
+    out.push_slice(head.as_slice())?;
+    match out.push_slice(body) {
         Ok(()) => Ok(()),
         Err(refused) => {
             out.cut(before);

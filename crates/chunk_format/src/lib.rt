@@ -9,6 +9,7 @@ mod entry;
 mod fault;
 mod field;
 mod fields;
+mod index;
 mod laws;
 mod lists;
 mod put;
@@ -26,6 +27,7 @@ pub use encode::{encode_chunk, put_header};
 pub use entry::{Entry, put_entry};
 pub use fault::ChunkFault;
 pub use field::{HeaderFault, chunk_fields_are_lawful, read_header};
+pub use index::{equal_index_records_agree, index_record};
 pub use laws::{
     a_small_list_says, an_opening_chunk_is_truthful, beginnings_of_one_log,
     bytes_begin_with_one_chunk, entries_without_a_tag_stay, names_stand_where_they_are_first,

@@ -66,10 +66,9 @@ impl Stored {
         ensures { IfOk result (λ s. s ≡ chunk.now) }
     {
         let encoded = encode_whole(alloc, chunk)?;
-        let bytes = Bytes::copy_from_slice(alloc, encoded.bytes.as_slice())?;
         Ok(Stored {
             header: encoded.header,
-            bytes,
+            bytes: encoded.bytes,
         })
     }
 

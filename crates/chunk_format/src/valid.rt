@@ -62,7 +62,7 @@ fn entry_len(entry: &Entry) -> u64
 }
 
 /// How many bytes entries have.
-fn payload_len(entries: &[Entry]) -> u64
+pub fn payload_len(entries: &[Entry]) -> u64
     requires each { All IsEntry entries.now }
     requires few { length entries.now < 2 ^ 16 }
     ensures { result ≡ length (entries_bytes entries.now) }

@@ -1,7 +1,7 @@
 use chunk_format::{
     Chunk, ChunkKind, DeltaParts, Entry, EntryParts, Header, SnapshotParts, Stored, TagParts,
-    check_chunk, crc32, decode_chunk, encode_chunk, is_chunk, put_delta, put_entry, put_snapshot,
-    put_tag, split_delta, split_entry, split_snapshot, split_tag,
+    check_chunk, crc32, decode_chunk, encode_chunk, index_record, is_chunk, put_delta, put_entry,
+    put_header, put_snapshot, put_tag, split_delta, split_entry, split_snapshot, split_tag,
 };
 use frame_wire::{Octets, Row};
 use std::alloc::Global;
@@ -91,6 +91,10 @@ fn has_bytes<R: Abort>(rt: &R, alloc: Global, chunk: &Chunk, text: &str) -> Resu
     assert_eq!(rt; shared.bytes(), bytes.as_slice(), "{text}");
     let header = Header::read(bytes.as_slice())?;
     assert_eq!(rt; *shared.header(), header, "{text}");
+    let mut spelled = Octets::new(alloc);
+    put_header(&mut spelled, &header)?;
+    assert_eq!(rt; spelled.len(), 48, "{text}");
+    assert!(rt; bytes.as_slice().starts_with(spelled.as_slice()), "{text}");
     Ok(())
 }
 
@@ -135,6 +139,61 @@ fn known_bytes_are_read_and_written_again(rt: HostRuntime) -> Result<(), Fail> {
         assert!(rt; check_chunk(bytes.as_slice()).is_ok(), "{text}");
         is_stored(&rt, alloc, bytes.as_slice(), len)?;
         has_bytes(&rt, alloc, &read.chunk, text)?;
+    }
+    Ok(())
+}
+
+/// The kind and the first offset of a chunk, its stamp and epoch, its place in a segment, and its record there.
+type Record = (ChunkKind, u64, i64, u64, u32, &'static str);
+
+const RECORDS: [Record; 3] = [
+    (
+        ChunkKind::User,
+        1,
+        0,
+        1,
+        8,
+        "0000000000000001000000000000000000000000000000010000000800",
+    ),
+    (
+        ChunkKind::Snapshot,
+        0x0102_0304_0506_0708,
+        -2,
+        0x1112_1314_1516_1718,
+        0x2122_2324,
+        "0102030405060708fffffffffffffffe11121314151617182122232402",
+    ),
+    (
+        ChunkKind::Delta,
+        u64::MAX,
+        i64::MIN,
+        0,
+        u32::MAX,
+        "ffffffffffffffff80000000000000000000000000000000ffffffff01",
+    ),
+];
+
+#[test]
+fn index_records_have_known_bytes(rt: HostRuntime) -> Result<(), Fail> {
+    let alloc = rt.alloc();
+    for (kind, first, stamp, epoch, place, text) in RECORDS {
+        let header = Header {
+            kind,
+            entries: 1,
+            records: 1,
+            stamp,
+            epoch,
+            first,
+            crc: 2,
+            payload_len: 4,
+            trailer_len: 0,
+        };
+        let bytes = hex::decode(alloc, text)?;
+        assert_eq!(rt;
+            index_record(&header, place).as_slice(),
+            bytes.as_slice(),
+            "{text}"
+        );
     }
     Ok(())
 }

@@ -4,4 +4,6 @@
 #[cfg(test)]
 mod known;
 #[cfg(test)]
+mod large;
+#[cfg(test)]
 mod refused;

@@ -1,6 +1,6 @@
 -- A view's bytes give back the chunk with which the bytes began.
-use Rattle.std.proofs.Common.{◌≡◌, ℕ, ◌+◌, ◌^◌, ◌<◌, List, [], length, get_or, Result, Ok, Err, MatchResult, refl, sym, ap, subst, ◌∙◌}
-use Rattle.std.proofs.lemmas.List.{append-nil}
+use Rattle.std.proofs.Common.{◌≡◌, ℕ, ◌+◌, ◌^◌, ◌<◌, List, [], ◌++◌, length, take, get_or, Result, Ok, Err, MatchResult, refl, sym, ap, subst, ◌∙◌, append_assoc, arith, length-append}
+use Rattle.std.proofs.lemmas.List.{append-nil, take_at}
 use Rattle.chunk_format.specs.declared.entry.Entry.{Entry}
 use Rattle.chunk_format.specs.declared.chunk.Header.{Header}
 use Rattle.chunk_format.specs.declared.chunk.Chunk.{Chunk}
@@ -8,9 +8,9 @@ use Rattle.chunk_format.specs.declared.fault.ChunkFault.{ChunkFault}
 use Rattle.chunk_format.specs.declared.decode.ReadChunk.{ReadChunk}
 use Rattle.chunk_format.specs.declared.decode.ChunkError.{ChunkError}
 use Rattle.chunk_format.specs.declared.decode.ChunkError.TheVariants.{Fault}
-use Rattle.chunk_format.specs.Chunks.{entries_bytes, records_of, chunk_bytes}
+use Rattle.chunk_format.specs.Chunks.{entries_bytes, header_bytes, header_of, records_of, chunk_bytes}
 use Rattle.chunk_format.specs.Faults.{whole_len, payload_of, trailer_of, SpellsEntries, ChunkWrong, BeginsWith}
-use Rattle.chunk_format.proofs.ChunkLaws.{chunk_length}
+use Rattle.chunk_format.proofs.ChunkLaws.{chunk_length, header_length}
 use Rattle.chunk_format.proofs.ChunkOnly.{payload_at, chunk_entries}
 use Rattle.chunk_format.proofs.ReadLaws.{only_chunk, told_chunk}
 use Rattle.chunk_format.specs.ReadBack.{entries_at, chunk_at, IsViewed, AreLeft}
@@ -31,6 +31,15 @@ view_parts h bytes viewed =
       payload = ap (λ (g : Header). payload_of g bytes) viewed.1 ∙ at.0;
       trailer = refl;
     }
+
+-- the bytes up to the trailer
+pub view_delivered : (h : Header) (bytes : List ℕ) → IsViewed h bytes → take (48 + h.payload_len) bytes ≡ header_bytes (header_of (chunk_at h bytes)) ++ entries_bytes (chunk_at h bytes).entries
+view_delivered h bytes viewed =
+    let c = chunk_at h bytes in
+    let head = header_bytes (header_of c) in
+    let payload = entries_bytes c.entries in
+    let len : length (head ++ payload) ≡ 48 + h.payload_len = omega (arith, length-append head payload, header_length (header_of c), ap (λ (g : Header). g.payload_len) viewed.1) in
+    ap (take (48 + h.payload_len)) (viewed.0.spelled ∙ sym (append_assoc head payload c.trailer)) ∙ take_at (head ++ payload) c.trailer (48 + h.payload_len) len
 
 -- all entries of a view are left at first
 pub record AllLeft (h : Header) (payload : List ℕ) (c : Chunk) : Type 0 where

@@ -1,10 +1,10 @@
 //! A chunk that was checked and is read in place.
 
-ghost use Rattle.std.specs.Prelude.{◌≡◌, ◌+◌, ◌^◌, ◌<◌, ℕ, map, drop, length, slice_get, MatchResult, IsSomeAnd};
+ghost use Rattle.std.specs.Prelude.{◌≡◌, ◌+◌, ◌^◌, ◌<◌, ◌++◌, ℕ, map, drop, length, slice_get, MatchResult, IsSomeAnd};
 ghost use Rattle.std.specs.List.{filter, flat_map};
 ghost use Rattle.chunk_format.specs.declared.chunk.Chunk.{Chunk};
 ghost use Rattle.chunk_format.specs.declared.chunk.ChunkKind.TheVariants.{User};
-ghost use Rattle.chunk_format.specs.Chunks.{entries_bytes, header_of, chunk_bytes, ChunkSpells};
+ghost use Rattle.chunk_format.specs.Chunks.{entries_bytes, header_bytes, header_of, chunk_bytes, ChunkSpells};
 ghost use Rattle.chunk_format.specs.Faults.{whole_len, payload_of, trailer_of, ChunkWrong, BeginsWith};
 ghost use Rattle.chunk_format.specs.LogRows.{chunk_rows};
 ghost use Rattle.chunk_view.specs.Shown.{EntryShown, shown, shown_entries, shown_row, shown_by, entry_place, entry_offset, head_len, StandsAt, ends_above};
@@ -97,6 +97,14 @@ impl<'a> ChunkView<'a> {
         ensures { ChunkSpells self.now result.now }
     {
         self.bytes
+    }
+
+    /// The header and the payload, without the trailer, as a delivery has them.
+    pub fn delivery(&self) -> &'a [u8]
+        ensures { result.now ≡ header_bytes (header_of self.now) ++ entries_bytes self.now.entries }
+    {
+        let payload_end = 48 + self.header.payload_len as usize;
+        &self.bytes[..payload_end]
     }
 
     /// The bytes of the entries, one after the other.

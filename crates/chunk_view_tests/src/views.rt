@@ -70,6 +70,15 @@ fn has_entries<R: Abort>(rt: &R, view: &ChunkView<'_>, entries: &[Entry], name: 
     assert_eq!(rt; view.header().entries, k, "{name}");
 }
 
+/// A delivery is these bytes without the trailer, and what is behind it.
+fn is_delivered<R: Abort>(rt: &R, view: &ChunkView<'_>, bytes: &[u8], name: &str) {
+    let delivery = view.delivery();
+    assert!(rt; bytes.starts_with(delivery), "{name}");
+    let sum = delivery.len().wrapping_add(view.trailer().len());
+    assert_eq!(rt; sum, view.bytes().len(), "{name}");
+    assert!(rt; delivery.ends_with(view.payload()), "{name}");
+}
+
 /// A view refuses these bytes with this fault, as `decode_chunk` does.
 fn is_refused<R: Abort>(rt: &R, alloc: Global, bytes: &[u8], fault: ChunkFault, name: &str) {
     assert_eq!(rt; ChunkView::open(bytes).err(), Some(fault), "{name}");
@@ -91,6 +100,7 @@ fn known_chunks_open_as_views(rt: HostRuntime) -> Result<(), Fail> {
         assert_eq!(rt; view.header(), Header::read(bytes.as_slice())?, "{name}");
         let sum = view.payload().len().wrapping_add(view.trailer().len());
         assert_eq!(rt; sum.wrapping_add(48), len, "{name}");
+        is_delivered(&rt, &view, bytes.as_slice(), name);
         has_entries(&rt, &view, entries, name);
     }
     Ok(())
