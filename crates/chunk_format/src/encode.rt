@@ -31,7 +31,7 @@ pub fn code_of(kind: ChunkKind) -> u8
     }
 }
 
-/// The 48 bytes of a header.
+/// The 48 bytes of a header, the last four of which are 0.
 #[tactic(auto, unfolding(crate::specs::Chunks::header_bytes, frame_wire::specs::Fields::u8_bytes, frame_wire::specs::Fields::u16_bytes, frame_wire::specs::Fields::u32_bytes, frame_wire::specs::Fields::u64_bytes, frame_wire::specs::Fields::i64_bytes))]
 fn spelled_header(header: &Header) -> [u8; 48]
     ensures { result ≡ header_bytes header.now }

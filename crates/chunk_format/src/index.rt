@@ -2,8 +2,9 @@
 
 ghost use Rattle.std.specs.Prelude.{◌≡◌, ℕ, ◌<◌, ◌^◌};
 ghost use Rattle.chunk_format.specs.declared.chunk.Header.{Header};
-ghost use Rattle.chunk_format.specs.Faults.{IsHeader};
-ghost use Rattle.chunk_format.specs.Index.{index_bytes, SameIndexed};
+ghost use Rattle.chunk_format.specs.declared.chunk.Chunk.{Chunk};
+ghost use Rattle.chunk_format.specs.Chunks.{header_of, IsChunk};
+ghost use Rattle.chunk_format.specs.Index.{index_bytes, FitsIndex, SameIndexed};
 
 use crate::chunk::Header;
 use crate::encode::code_of;
@@ -23,7 +24,9 @@ pub fn index_record(header: &Header, place: u32) -> [u8; 29]
     record
 }
 
-/// Equal records are of chunks with the same first offset, stamp, epoch and kind, at the same place. It does nothing.
+/// Equal records are of chunks with the same first offset, stamp, epoch and kind, at the same place, and what a record
+/// holds of a chunk fits it. It does nothing.
 pub fn equal_index_records_agree()
-    ensures { (h other : Header) (place other_place : ℕ) → IsHeader h → IsHeader other → place < 2 ^ 32 → other_place < 2 ^ 32 → index_bytes h place ≡ index_bytes other other_place → SameIndexed h place other other_place }
+    ensures agree { (h other : Header) (place other_place : ℕ) → FitsIndex h place → FitsIndex other other_place → index_bytes h place ≡ index_bytes other other_place → SameIndexed h place other other_place }
+    ensures fits { (c : Chunk) (place : ℕ) → IsChunk c → place < 2 ^ 32 → FitsIndex (header_of c) place }
 {}

@@ -1,6 +1,6 @@
 //! A chunk that was checked and is read in place.
 
-ghost use Rattle.std.specs.Prelude.{◌≡◌, ◌+◌, ◌^◌, ◌<◌, ◌++◌, ℕ, map, drop, length, slice_get, MatchResult, IsSomeAnd};
+ghost use Rattle.std.specs.Prelude.{◌≡◌, ◌+◌, ◌^◌, ◌<◌, ◌++◌, ℕ, map, take, drop, length, slice_get, MatchResult, IsSomeAnd};
 ghost use Rattle.std.specs.List.{filter, flat_map};
 ghost use Rattle.chunk_format.specs.declared.chunk.Chunk.{Chunk};
 ghost use Rattle.chunk_format.specs.declared.chunk.ChunkKind.TheVariants.{User};
@@ -62,6 +62,14 @@ fn parts_behind<'a>(header: &Header, bytes: &'a [u8]) -> (&'a [u8], &'a [u8])
     (payload, trailer)
 }
 
+/// What stands before the trailer, of all bytes of a chunk.
+fn before_trailer<'a>(header: &Header, bytes: &'a [u8]) -> &'a [u8]
+    requires { length bytes.now ≡ whole_len header.now }
+    ensures { result.now ≡ take (48 + header.now.payload_len) bytes.now }
+{
+    &bytes[..48 + header.payload_len as usize]
+}
+
 impl<'a> ChunkView<'a> {
     /// Checks whether the bytes begin with a chunk, and gives its view. Bytes after the chunk are
     /// left, and are no part of the view. It refuses exactly with the first check that fails, at
@@ -103,8 +111,7 @@ impl<'a> ChunkView<'a> {
     pub fn delivery(&self) -> &'a [u8]
         ensures { result.now ≡ header_bytes (header_of self.now) ++ entries_bytes self.now.entries }
     {
-        let payload_end = 48 + self.header.payload_len as usize;
-        &self.bytes[..payload_end]
+        before_trailer(&self.header, self.bytes)
     }
 
     /// The bytes of the entries, one after the other.

@@ -1,7 +1,7 @@
 use Rattle.std.proofs.Common.{◌≡◌, ◌++◌, List, ℕ, length, drop, ap, ◌∙◌, arith}
 use Rattle.std.proofs.lemmas.List.{take_at}
 use Rattle.chunk_format.specs.declared.chunk.Header.{Header}
-use Rattle.chunk_format.specs.Chunks.{entries_bytes, header_bytes, chunk_bytes, ChunkSpells}
+use Rattle.chunk_format.specs.Chunks.{entries_bytes, header_bytes, chunk_bytes}
 use Rattle.chunk_format.proofs.encode.encode_whole.Goals as goal
 
 pub returns-clause-bytes : goal.returns-clause-bytes
