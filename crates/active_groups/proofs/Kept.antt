@@ -1,12 +1,12 @@
 -- Whoever joins, leaves, is told or answers: what holds of all groups still holds.
-use Rattle.std.proofs.Common.{◌≡◌, ◌≤◌, ◌<◌, ℕ, zero, suc, ◌+◌, Bool, true, false, not, cond, eqb, List, [], ◌∷◌, ◌++◌, length, Option, Some, None, filter, count_by, sum_by, position, refl, sym, ap, subst, ◌∙◌, arith}
+use Rattle.std.proofs.Common.{◌≡◌, ◌&&◌, ◌==◌, ◌≤◌, ◌<◌, ℕ, zero, suc, ◌+◌, Bool, true, false, not, cond, eqb, List, [], ◌∷◌, ◌++◌, length, Option, Some, None, filter, count_by, sum_by, position, refl, sym, ap, subst, ◌∙◌, arith}
 use Rattle.std.specs.List.{All, list_any, find, position_or_len}
 use Rattle.std.proofs.lemmas.Grind.{common_steps}
 use Rattle.active_groups.specs.declared.consumer.ConsumerId.{ConsumerId}
 use Rattle.active_groups.specs.declared.consumer.GroupState.{GroupState}
 use Rattle.active_groups.specs.declared.consumer.GroupState.TheVariants.{Waiting, Starting, Active, Stopping}
 use Rattle.active_groups.specs.declared.consumer.Seat.{Seat}
-use Rattle.active_groups.specs.Seating.{Seating, is_of, sits, seats_one, same_consumer, state_in, state_at, state_of, is_busy, is_active, is_open, AtMostOne}
+use Rattle.active_groups.specs.Seating.{Seating, same_bytes, same_text, is_of, sits, seats_one, same_consumer, state_in, state_at, state_of, is_busy, is_active, is_open, AtMostOne}
 use Rattle.active_groups.specs.Changes.{at_place, at_first, wanted, turn_of, change_at, told_as, told, tells, with_state, after_answer, answered_seat, answered}
 use Rattle.active_groups.proofs.Places.{there, nowhere}
 use Rattle.active_groups.specs.Steps.{with_consumer, new_group, joined, without, has_seats, left, polled, all_answered, places_of, AreGroups}
@@ -17,10 +17,10 @@ cons-All : {A : Type 0} (P : A → Type 0) (x : A) (xs : List A) → P x → All
 cons-All P x xs here rest zero d lt = here
 cons-All P x xs here rest (suc k) d lt = rest k d (omega arith)
 
-head-All : {A : Type 0} (P : A → Type 0) (x : A) (xs : List A) → All P (x ∷ xs) → P x
+pub head-All : {A : Type 0} (P : A → Type 0) (x : A) (xs : List A) → All P (x ∷ xs) → P x
 head-All P x xs all = all zero x (omega arith)
 
-tail-All : {A : Type 0} (P : A → Type 0) (x : A) (xs : List A) → All P (x ∷ xs) → All P xs
+pub tail-All : {A : Type 0} (P : A → Type 0) (x : A) (xs : List A) → All P (x ∷ xs) → All P xs
 tail-All P x xs all k d lt = all (suc k) d (omega arith)
 
 first-by : {A : Type 0} (P : A → Type 0) (f : A → A) (x : A) (xs ys : List A) (b : Bool) → P x → P (f x) → All P xs → All P ys → All P (cond b (f x ∷ xs) (x ∷ ys))
@@ -61,12 +61,12 @@ one_more p f [] i = omega arith
 one_more p f (x ∷ xs) zero = grind (arith, common_steps)
 one_more p f (x ∷ xs) (suc i) = grind (arith, common_steps, one_more p f xs i)
 
-length-at_place : {A : Type 0} (f : A → A) (xs : List A) (i : ℕ) → length (at_place i f xs) ≡ length xs
+pub length-at_place : {A : Type 0} (f : A → A) (xs : List A) (i : ℕ) → length (at_place i f xs) ≡ length xs
 length-at_place f [] i = refl
 length-at_place f (x ∷ xs) zero = refl
 length-at_place f (x ∷ xs) (suc i) = ap suc (length-at_place f xs i)
 
-length-at_first : {A : Type 0} (p : A → Bool) (f : A → A) (xs : List A) → length (at_first p f xs) ≡ length xs
+pub length-at_first : {A : Type 0} (p : A → Bool) (f : A → A) (xs : List A) → length (at_first p f xs) ≡ length xs
 length-at_first p f [] = refl
 length-at_first p f (x ∷ xs) = grind (arith, common_steps, length-at_first p f xs)
 
@@ -88,7 +88,7 @@ quiet : (seats : List Seat) → list_any (λ (s : Seat). is_open s.state) seats 
 quiet [] h = refl
 quiet (s ∷ seats) h = grind (arith, common_steps, quiet seats, one_state s.state)
 
-none_active : {A : Type 0} (p : A → Bool) (xs : List A) → length xs ≤ position_or_len p xs → count_by p xs ≡ 0
+pub none_active : {A : Type 0} (p : A → Bool) (xs : List A) → length xs ≤ position_or_len p xs → count_by p xs ≡ 0
 none_active p [] h = refl
 none_active p (x ∷ xs) h = grind (arith, common_steps, none_active p xs)
 
@@ -153,7 +153,7 @@ same_place q f [] i same = refl
 same_place q f (x ∷ xs) zero same = grind (arith, common_steps, same x)
 same_place q f (x ∷ xs) (suc i) same = grind (arith, common_steps, same_place q f xs i same)
 
-same_first : {A : Type 0} (q p : A → Bool) (f : A → A) (xs : List A) → ((x : A) → q (f x) ≡ q x) → count_by q (at_first p f xs) ≡ count_by q xs
+pub same_first : {A : Type 0} (q p : A → Bool) (f : A → A) (xs : List A) → ((x : A) → q (f x) ≡ q x) → count_by q (at_first p f xs) ≡ count_by q xs
 same_first q p f [] same = refl
 same_first q p f (x ∷ xs) same = grind (arith, common_steps, same_first q p f xs same, same x)
 
@@ -207,6 +207,39 @@ absent (g ∷ gs) consumer h =
     let rest = absent gs consumer parts.1 in
     rw (none, rest) refl
 
+-- ---- one group of each name
+
+same_list : (a b : List ℕ) → same_bytes a b ≡ true → a ≡ b
+same_list [] [] h = refl
+same_list [] (y ∷ ys) h = absurd cc
+same_list (x ∷ xs) [] h = absurd cc
+same_list (x ∷ xs) (y ∷ ys) h = grind (arith, common_steps, same_list xs ys)
+
+same_name : (a b : Option (List ℕ)) → same_text a b ≡ true → a ≡ b
+same_name None None h = refl
+same_name None (Some b) h = absurd cc
+same_name (Some a) None h = absurd cc
+same_name (Some a) (Some b) h = ap (λ (l : List ℕ). Some l) (same_list a b h)
+
+told_name : (stream : ℕ) (name : Option (List ℕ)) (g : Seating) (o : Option (ℕ × Bool)) → is_of stream name (told_as g o) ≡ is_of stream name g
+told_name stream name g None = refl
+told_name stream name g (Some p) = refl
+
+none_counted : {A : Type 0} (p : A → Bool) (xs : List A) → list_any p xs ≡ false → count_by p xs ≡ 0
+none_counted p [] h = refl
+none_counted p (x ∷ xs) h = grind (arith, common_steps, none_counted p xs)
+
+same_key : (s t : ℕ) (a b : Option (List ℕ)) → ((s == t) && same_text a b) ≡ true → (s ≡ t) × (a ≡ b)
+same_key s t a b h = (grind (arith, common_steps), same_name a b (grind (arith, common_steps)))
+
+new_key : (stream : ℕ) (name : Option (List ℕ)) (s : ℕ) (n : Option (List ℕ)) (gs : List Seating) (b : Bool) → ((stream == s) && same_text name n) ≡ b → list_any (is_of stream name) gs ≡ false → count_by (is_of s n) gs ≤ 1 → count_by (is_of s n) gs + cond b 1 0 ≤ 1
+new_key stream name s n gs true e nobody old =
+    let key = same_key stream s name n e in
+    let none = none_counted (is_of stream name) gs nobody in
+    let there : count_by (is_of s n) gs ≡ 0 = ap (λ (v : ℕ). count_by (is_of v n) gs) (sym key.0) ∙ ap (λ (v : Option (List ℕ)). count_by (is_of stream v) gs) (sym key.1) ∙ none in
+    omega (arith, there)
+new_key stream name s n gs false e nobody old = omega arith
+
 -- ---- all groups
 
 pub polled_are : (session : ℕ) (gs : List Seating) → AreGroups gs → AreGroups (polled session gs)
@@ -214,6 +247,7 @@ polled_are session gs are = record {
   one_busy = first-All (λ g. AtMostOne g.seats) (tells session) told gs told_one are.one_busy;
   seated = first-All (λ g. 0 < length g.seats) (tells session) told gs (λ g. told_seated g (change_at g)) are.seated;
   once = λ consumer. omega (arith, sum_first (places_of consumer) (tells session) told 0 gs (λ g. told_places consumer g (change_at g)), are.once consumer);
+  one_each = λ stream name. omega (arith, same_first (is_of stream name) (tells session) told gs (λ g. told_name stream name g (change_at g)), are.one_each stream name);
 }
 
 pub answered_are : (one : ConsumerId) (gs : List Seating) → AreGroups gs → AreGroups (all_answered one gs)
@@ -221,6 +255,7 @@ answered_are one gs are = record {
   one_busy = first-All (λ g. AtMostOne g.seats) (sits one) (answered one) gs (λ g few. omega (arith, few, calmer (seats_one one) g.seats)) are.one_busy;
   seated = first-All (λ g. 0 < length g.seats) (sits one) (answered one) gs (λ g some. omega (arith, some, length-at_first (seats_one one) answered_seat g.seats)) are.seated;
   once = λ consumer. omega (arith, sum_first (places_of consumer) (sits one) (answered one) 0 gs (answered_places one consumer), are.once consumer);
+  one_each = λ stream name. omega (arith, same_first (is_of stream name) (sits one) (answered one) gs (λ g. refl), are.one_each stream name);
 }
 
 pub left_are : (one : ConsumerId) (gs : List Seating) → AreGroups gs → AreGroups (left one gs)
@@ -228,6 +263,7 @@ left_are one gs are = record {
   one_busy = filter-All (λ g. AtMostOne g.seats) has_seats (at_first (sits one) (without one) gs) (first-All (λ g. AtMostOne g.seats) (sits one) (without one) gs (λ g few. omega (arith, few, fewer Busy (λ s. not (seats_one one s)) g.seats)) are.one_busy);
   seated = passing (λ g. 0 < length g.seats) has_seats (at_first (sits one) (without one) gs) (λ g some. grind (arith, common_steps));
   once = λ consumer. omega (arith, sum_filter (places_of consumer) has_seats (at_first (sits one) (without one) gs), sum_first (places_of consumer) (sits one) (without one) 0 gs (without_places one consumer), are.once consumer);
+  one_each = λ stream name. omega (arith, fewer (is_of stream name) has_seats (at_first (sits one) (without one) gs), same_first (is_of stream name) (sits one) (without one) gs (λ g. refl), are.one_each stream name);
 }
 
 once_more : (one consumer : ConsumerId) (gs : List Seating) (b : Bool) (n : ℕ) → same_consumer one consumer ≡ b → state_of gs one ≡ None → sum_by (places_of consumer) gs ≤ 1 → n ≤ sum_by (places_of consumer) gs + cond b 1 0 → n ≤ 1
@@ -240,21 +276,23 @@ joined_in stream name one gs out are = record {
   seated = first-All (λ g. 0 < length g.seats) (is_of stream name) (with_consumer one) gs (λ g some. push-length g.seats (record { consumer = one; state = Waiting })) are.seated;
   once = λ consumer. once_more one consumer gs (same_consumer one consumer) _ refl out (are.once consumer)
       (sum_first (places_of consumer) (is_of stream name) (with_consumer one) (cond (same_consumer one consumer) 1 0) gs (joined_places one consumer));
+  one_each = λ s n. omega (arith, same_first (is_of s n) (is_of stream name) (with_consumer one) gs (λ g. refl), are.one_each s n);
 }
 
-pub joined_new : (stream : ℕ) (name : Option (List ℕ)) (index : ℕ) (one : ConsumerId) (gs : List Seating) → state_of gs one ≡ None → AreGroups gs → AreGroups (gs ++ with_consumer one (new_group stream name index) ∷ [])
-joined_new stream name index one gs out are =
+pub joined_new : (stream : ℕ) (name : Option (List ℕ)) (index : ℕ) (one : ConsumerId) (gs : List Seating) → list_any (is_of stream name) gs ≡ false → state_of gs one ≡ None → AreGroups gs → AreGroups (gs ++ with_consumer one (new_group stream name index) ∷ [])
+joined_new stream name index one gs absent_name out are =
     let g = new_group stream name index in record {
       one_busy = push-All (λ g. AtMostOne g.seats) gs (with_consumer one g) are.one_busy (omega arith);
       seated = push-All (λ g. 0 < length g.seats) gs (with_consumer one g) are.seated (omega arith);
       once = λ consumer. once_more one consumer gs (same_consumer one consumer) _ refl out (are.once consumer)
           (omega (arith, push-sum (places_of consumer) gs (with_consumer one g), joined_places one consumer g));
+      one_each = λ s n. omega (arith, push-count (is_of s n) gs (with_consumer one g), new_key stream name s n gs ((stream == s) && same_text name n) refl absent_name (are.one_each s n));
     }
 
-joined_by : (stream : ℕ) (name : Option (List ℕ)) (index : ℕ) (one : ConsumerId) (gs : List Seating) (b : Bool) → state_of gs one ≡ None → AreGroups gs →
+joined_by : (stream : ℕ) (name : Option (List ℕ)) (index : ℕ) (one : ConsumerId) (gs : List Seating) (b : Bool) → list_any (is_of stream name) gs ≡ b → state_of gs one ≡ None → AreGroups gs →
     AreGroups (cond b (at_first (is_of stream name) (with_consumer one) gs) (gs ++ with_consumer one (new_group stream name index) ∷ []))
-joined_by stream name index one gs true out are = joined_in stream name one gs out are
-joined_by stream name index one gs false out are = joined_new stream name index one gs out are
+joined_by stream name index one gs true e out are = joined_in stream name one gs out are
+joined_by stream name index one gs false e out are = joined_new stream name index one gs e out are
 
 pub joined_are : (stream : ℕ) (name : Option (List ℕ)) (index : ℕ) (one : ConsumerId) (gs : List Seating) → state_of gs one ≡ None → AreGroups gs → AreGroups (joined stream name index one gs)
-joined_are stream name index one gs out are = joined_by stream name index one gs (list_any (is_of stream name) gs) out are
+joined_are stream name index one gs out are = joined_by stream name index one gs (list_any (is_of stream name) gs) refl out are

@@ -1,3 +1,4 @@
 pub mod Seating
 pub mod Changes
 pub mod Steps
+pub mod Settling

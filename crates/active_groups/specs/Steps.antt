@@ -95,3 +95,5 @@ pub record AreGroups (gs : List Seating) : Type 0 where
   pub seated : All (λ g. 0 < length g.seats) gs
   -- no consumer sits at two places
   pub once : (consumer : ConsumerId) → sum_by (places_of consumer) gs ≤ 1
+  -- no two are of one stream and name
+  pub one_each : (stream : ℕ) (name : Option (List ℕ)) → count_by (is_of stream name) gs ≤ 1

@@ -73,8 +73,9 @@ impl GroupState {
         ensures { result ≡ after_answer self }
     {
         match self {
-            GroupState::Waiting | GroupState::Stopping => GroupState::Waiting,
-            GroupState::Starting | GroupState::Active => GroupState::Active,
+            GroupState::Starting => GroupState::Active,
+            GroupState::Stopping => GroupState::Waiting,
+            GroupState::Waiting | GroupState::Active => self,
         }
     }
 }

@@ -5,7 +5,9 @@
 mod consumer;
 mod group;
 mod groups;
+mod laws;
 mod text;
 
 pub use consumer::{Change, ConsumerId, GroupState};
 pub use groups::Groups;
+pub use laws::groups_settle;

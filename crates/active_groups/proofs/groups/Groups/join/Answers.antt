@@ -1,5 +1,7 @@
 use Rattle.std.proofs.Common.{sym, ◌∙◌, ap, ◌∷◌, [], ◌++◌}
 use Rattle.active_groups.proofs.Kept.{joined_new}
+use Rattle.active_groups.specs.Seating.{is_of}
+use Rattle.active_groups.proofs.Places.{none}
 use Rattle.active_groups.proofs.Calls.{join_done, join_kept, join_new}
 use Rattle.active_groups.proofs.groups.Groups.join.Goals as goal
 
@@ -11,7 +13,7 @@ invariant_of-self c =
 pub invariant_of-self-in-None : goal.invariant_of-self-in-None
 invariant_of-self-in-None c =
     let e = c.in_ok-push-in-None.ensures.items ∙ ap (λ g. c.self.inside.groups.items ++ g ∷ []) c.in_ok-group-in-None.ensures in
-    rw e (joined_new c.args.stream c.args.name.now c.args.index c.args.consumer c.self.inside.groups.items (rw (← c.self.view_is) at c.requires) c.self.invariant)
+    rw e (joined_new c.args.stream c.args.name.now c.args.index c.args.consumer c.self.inside.groups.items (none (is_of c.args.stream c.args.name.now) c.self.inside.groups.items (rw c.as_slice.ensures.value at (sym c.group_named.ensures.is ∙ c.in-None.is))) (rw (← c.self.view_is) at c.requires) c.self.invariant)
 
 pub returns-in-Some-clause-ok : goal.returns-in-Some-clause-ok
 returns-in-Some-clause-ok c =
