@@ -1,23 +1,10 @@
--- Files that were made sure, and the images that a crash picks.
-use Rattle.std.proofs.Common.{◌≡◌, inl, inr, ℕ, zero, suc, ◌/◌, ◌≤◌, Bool, true, false, List, length, take, drop, ◌⊎◌, refl, sym, ◌∙◌, ap, subst, arith}
+-- The images that a crash picks.
+use Rattle.std.proofs.Common.{◌≡◌, inl, inr, ℕ, zero, suc, ◌/◌, ◌≤◌, Bool, true, false, List, length, ◌⊎◌, refl, sym, subst, arith}
 use Rattle.std.proofs.lemmas.List.{length-take, length-replicate}
 use Rattle.disk_calls.specs.Disk.{Image}
-use Rattle.member_disk.specs.Memory.{Held, ImageOf, IsCrashed, Surer, all_done, TearsAll, seen_of, half, all_a5}
-use Rattle.member_disk.proofs.Tearing.{all_done_parts, tears_rest, all_stay, torn_last_tears}
+use Rattle.member_disk.specs.Memory.{Held, ImageOf, IsCrashed, seen_of, half, all_a5}
+use Rattle.member_disk.proofs.Tearing.{all_stay, torn_last_tears}
 use Rattle.member_disk.specs.TornDone.{all_done_tears}
-use Rattle.member_disk.specs.declared.memory_file.Call.{Call}
-
-pub surer_same : (old new : Held) → Surer old new → seen_of new ≡ seen_of old
-surer_same old new s =
-    ap (λ (cs : List Call). all_done cs new.base) s.calls
-    ∙ ap (λ (b : Image). all_done (drop s.count old.calls) b) s.base
-    ∙ all_done_parts s.count old.calls old.base
-
-pub surer_images : (old new : Held) → Surer old new → (c : Image) → ImageOf new c → ImageOf old c
-surer_images old new s c left =
-    let one : TearsAll (drop s.count old.calls) new.base c = subst (λ (cs : List Call). TearsAll cs new.base c) s.calls left in
-    let two : TearsAll (drop s.count old.calls) (all_done (take s.count old.calls) old.base) c = subst (λ (b : Image). TearsAll (drop s.count old.calls) b c) s.base one in
-    tears_rest s.count old.calls old.base c two
 
 half_less : (v : List ℕ) → length (half v) ≤ length v
 half_less v = omega (arith, length-take (length v / 2) v)

@@ -5,7 +5,7 @@ use Rattle.std.specs.BTreeMap.{BTreeMap}
 use Rattle.disk_calls.specs.Disk.{Image, Changes, Elsewhere, Looks, AreNames, RemovedFile, IsThere, LeftByCrash, bytes_of}
 use Rattle.member_disk.specs.Memory.{Held, ImageOf, Tears, TearsAll, done, all_done, seen_of, sure, with_call}
 use Rattle.member_disk.specs.Streams.{Stream, Moves, Crashes}
-use Rattle.member_disk.specs.MemoryDisks.{OnStream, Counts, Does, DoesSome, Takes, Answers, files_in, held_in, state_of}
+use Rattle.member_disk.specs.MemoryDisks.{OnStream, Counts, Does, Takes, Answers, files_in, held_in, state_of}
 use Rattle.member_disk.specs.TornDone.{all_done_tears}
 use Rattle.std.specs.declared.alloc.AllocError.{AllocError}
 use Rattle.disk_calls.specs.declared.disk.DiskDid.{DiskDid}
@@ -18,7 +18,6 @@ use Rattle.member_disk.specs.declared.memory_map.Happened.{Happened}
 use Rattle.member_disk.specs.declared.memory_map.Happened.TheVariants as happened
 use Rattle.member_disk.specs.declared.memory_stream.MemoryStream.{MemoryStream}
 use Rattle.member_disk.proofs.Tearing.{tears_last, stays, all_done_push}
-use Rattle.member_disk.proofs.Crashes.{surer_same, surer_images}
 use Rattle.member_disk.proofs.Names.{cases_at}
 use Rattle.member_disk.proofs.NamesThere.{names_elsewhere}
 
@@ -131,19 +130,13 @@ decide_file id f = elim (cases_eq f.stream id.stream) [
 sure_images : (h : Held) (x : Image) → ImageOf (sure (seen_of h)) x → ImageOf h x
 sure_images h x is = subst (λ (y : Image). ImageOf h y) (sym is) (all_done_tears h.calls h.base)
 
-pub did_sync : (id : FileId) (order : List FileName → List FileName) (a c : BTreeMap ℕ MemoryStream) (fa fc : ℕ) (due : Bool) (d : Happened) → Takes d due (OnStream id.stream (Does id.file (λ h. sure (seen_of h)) order) a c) (OnStream id.stream Counts a c) (OnStream id.stream (DoesSome id.file) a c) → Looks (state_of a fa) (state_of c fc)
+pub did_sync : (id : FileId) (order : List FileName → List FileName) (a c : BTreeMap ℕ MemoryStream) (fa fc : ℕ) (due : Bool) (d : Happened) → Takes d due (OnStream id.stream (Does id.file (λ h. sure (seen_of h)) order) a c) (OnStream id.stream Counts a c) (OnStream id.stream Counts a c) → Looks (state_of a fa) (state_of c fc)
 did_sync id order a c fa fc due happened.Done takes =
     surer_looks id a c fa fc (ap seen_of takes.1.own.own)
     (λ x left. sure_images (held_in a id) x (subst (λ (h : Held). ImageOf h x) takes.1.own.own left))
     (others_stay id _ _ _ a c refl takes.1.own takes.1.elsewhere) (decide_file id)
 did_sync id order a c fa fc due happened.Due takes = looks_of id.stream a c fa fc takes.1
-did_sync id order a c fa fc due happened.Refused takes =
-    let file = takes.1.own.0 in
-    let surer = takes.1.own.1 in
-    let moves = takes.1.own.2 in
-    surer_looks id a c fa fc (ap seen_of moves.own ∙ surer_same (held_in a id) file surer)
-    (λ x left. surer_images (held_in a id) file surer x (subst (λ (h : Held). ImageOf h x) moves.own left))
-    (others_stay id _ _ _ a c refl moves takes.1.elsewhere) (decide_file id)
+did_sync id order a c fa fc due happened.Refused takes = looks_of id.stream a c fa fc takes.1
 
 pub names_before : (n k : ℕ) (a c : BTreeMap ℕ MemoryStream) (found : List FileId) → OnStream k Counts a c → AreNames n (λ f. seen_of (held_in c f)) found → AreNames n (λ f. seen_of (held_in a f)) found
 names_before n k a c found counts names = names_elsewhere n (λ f. seen_of (held_in c f)) (λ f. seen_of (held_in a f)) found (λ f is. ap seen_of (all_stay k a c counts f)) names

@@ -4,3 +4,4 @@ pub mod DiskCalls
 pub mod Names
 pub mod NamesThere
 pub mod Tearing
+pub mod Undoing

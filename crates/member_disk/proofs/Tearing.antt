@@ -1,5 +1,5 @@
 -- Calls that were torn, or not.
-use Rattle.std.proofs.Common.{◌≡◌, ℕ, zero, suc, ◌+◌, ◌≤◌, Bool, true, false, List, [], ◌∷◌, ◌++◌, length, take, drop, Some, None, refl, sym, ◌∙◌, ap, subst, arith}
+use Rattle.std.proofs.Common.{◌≡◌, ℕ, ◌≤◌, Bool, true, false, List, [], ◌∷◌, ◌++◌, length, Some, None, refl, sym, subst, arith}
 use Rattle.std.proofs.lemmas.List.{take_all}
 use Rattle.disk_calls.specs.Disk.{Image, TornFile}
 use Rattle.member_disk.specs.Memory.{done, all_done, Tears, TearsAll, has_write, torn_call, torn_last}
@@ -30,18 +30,6 @@ pub all_done_push : (calls : List Call) (x : Call) (old : Image) → all_done (c
 all_done_push [] x old = refl
 all_done_push (c ∷ calls) x old = all_done_push calls x (done c old)
 
--- calls in two parts
-pub all_done_parts : (n : ℕ) (calls : List Call) (old : Image) → all_done (drop n calls) (all_done (take n calls) old) ≡ all_done calls old
-all_done_parts zero calls old = refl
-all_done_parts (suc n) [] old = refl
-all_done_parts (suc n) (c ∷ calls) old = all_done_parts n calls (done c old)
-
--- calls of which the first are done before the others are torn
-pub tears_rest : (n : ℕ) (calls : List Call) (old new : Image) → TearsAll (drop n calls) (all_done (take n calls) old) new → TearsAll calls old new
-tears_rest zero calls old new tears = tears
-tears_rest (suc n) [] old new tears = tears
-tears_rest (suc n) (c ∷ calls) old new tears = (done c old, done_tears c old, tears_rest n calls (done c old) new tears)
-
 -- a write with fewer bytes is one that was torn
 torn_call_tears : (tear : List ℕ → List ℕ) → ((v : List ℕ) → length (tear v) ≤ length v) → (c : Call) (later : Bool) (old : Image) → Tears c old (done (torn_call tear c later) old)
 torn_call_tears tear less (call.Write at v) true old = done_tears (call.Write at v) old
@@ -53,8 +41,3 @@ torn_last_tears tear less [] old = refl
 torn_last_tears tear less (c ∷ calls) old =
     let mid = done (torn_call tear c (has_write calls)) old in
     (mid, torn_call_tears tear less c (has_write calls) old, torn_last_tears tear less calls mid)
-
--- one call more
-pub all_done_step : (calls : List Call) (i : ℕ) (x : Call) (old new now : Image) → take (i + 1) calls ≡ take i calls ++ x ∷ [] → now ≡ all_done (take i calls) old → new ≡ done x now → new ≡ all_done (take (i + 1) calls) old
-all_done_step calls i x old new now more so_far step =
-    step ∙ ap (λ (c : Image). done x c) so_far ∙ sym (all_done_push (take i calls) x old) ∙ ap (λ (cs : List Call). all_done cs old) (sym more)

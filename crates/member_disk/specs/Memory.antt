@@ -1,5 +1,5 @@
 -- The files of a disk in memory, and which image of each a crash takes.
-use Rattle.std.specs.Prelude.{◌≡◌, ℕ, ◌/◌, ◌^◌, ◌<◌, ◌≤◌, Bool, true, false, cond, List, [], ◌∷◌, ◌++◌, length, take, drop, replicate, Option, Some, None}
+use Rattle.std.specs.Prelude.{◌≡◌, ℕ, ◌/◌, ◌^◌, ◌<◌, ◌≤◌, Bool, true, false, cond, List, [], ◌∷◌, ◌++◌, length, take, replicate, Option, Some, None}
 use Rattle.disk_calls.specs.Disk.{Image, bytes_of, TornFile, CutFile, over}
 use Rattle.member_disk.specs.declared.memory_file.Call.{Call}
 use Rattle.member_disk.specs.declared.memory_file.Call.TheVariants as call
@@ -53,12 +53,6 @@ held_at (Some h) = h
 
 abbrev pub with_call : Held → Call → Held
 with_call h c = record { base = h.base; calls = h.calls ++ c ∷ [] }
-
--- some of the calls have been made sure
-pub record Surer (old new : Held) : Type 0 where
-  pub count : ℕ
-  pub base : new.base ≡ all_done (take count old.calls) old.base
-  pub calls : new.calls ≡ drop count old.calls
 
 abbrev pub has_write : List Call → Bool
 has_write [] = false

@@ -3,7 +3,8 @@ use Rattle.std.specs.Prelude.{◌≡◌, ◌≢◌, ◌⊎◌, ◌≤◌, ℕ, B
 use Rattle.std.specs.Ordering.{nat_cmp}
 use Rattle.std.specs.BTreeMap.{BTreeMap, get}
 use Rattle.disk_calls.specs.Disk.{DiskState, Rose}
-use Rattle.member_disk.specs.Memory.{Held, ImageOf, Surer, seen_of}
+use Rattle.member_disk.specs.Counting.{risen}
+use Rattle.member_disk.specs.Memory.{Held, ImageOf, seen_of}
 use Rattle.member_disk.specs.Settings.{after_call}
 use Rattle.member_disk.specs.Streams.{Stream, Moves, Stays, stream_of, no_files}
 use Rattle.disk_calls.specs.declared.file_id.FileName.{FileName}
@@ -47,10 +48,6 @@ Counts s t = Stays (counted s) t
 abbrev pub Does : FileName → (Held → Held) → (List FileName → List FileName) → Stream → Stream → Type 0
 Does name file order s t = Moves name (file (s.held name)) (order s.order) (counted s) t
 
--- a counted call that made some of a file's calls sure
-abbrev pub DoesSome : FileName → Stream → Stream → Type 0
-DoesSome name s t = (file : Held) × Surer (s.held name) file × Moves name file s.order (counted s) t
-
 -- what a counted call came to: done, a setting fell due, or a growth was refused
 abbrev pub Takes : Happened → Bool → Type 0 → Type 0 → Type 0 → Type 0
 Takes happened.Done due WhereDone WhereDue WhereRefused = (due ≡ false) × WhereDone
@@ -60,11 +57,11 @@ Takes happened.Refused due WhereDone WhereDue WhereRefused = (due ≡ false) × 
 -- the answer, and the counts of faults and of refused growths, after it
 abbrev pub Answers : Happened → ℕ → ℕ → ℕ → ℕ → DiskDid → Type 0
 Answers happened.Done faults faults_new refused refused_new answer = (answer ≡ did.Done) × (faults_new ≡ faults) × (refused_new ≡ refused)
-Answers happened.Due faults faults_new refused refused_new answer = (answer ≡ did.Failed) × (faults ≤ faults_new) × Rose faults faults_new × (refused_new ≡ refused)
-Answers happened.Refused faults faults_new refused refused_new answer = (answer ≡ did.Failed) × (faults ≤ faults_new) × Rose faults faults_new × Rose refused refused_new
+Answers happened.Due faults faults_new refused refused_new answer = (answer ≡ did.Failed) × (faults ≤ faults_new) × Rose faults faults_new × (faults_new ≡ risen faults) × (refused_new ≡ refused)
+Answers happened.Refused faults faults_new refused refused_new answer = (answer ≡ did.Failed) × (faults ≤ faults_new) × Rose faults faults_new × (faults_new ≡ risen faults) × (refused_new ≡ risen refused)
 
 -- A call fails exactly where a setting falls due at it, or a growth was refused in it.
 pub record FailsExactly (Failed : Type 0) (due : Bool) (refused_old refused_new : ℕ) : Type 0 where
   pub where_due : due ≡ true → Failed × (refused_new ≡ refused_old)
-  pub only : Failed → (due ≡ true) ⊎ Rose refused_old refused_new
+  pub only : Failed → (due ≡ true) ⊎ (refused_new ≡ risen refused_old)
   pub else_same : ¬ Failed → refused_new ≡ refused_old

@@ -39,7 +39,7 @@ over_after old bytes at n le = elim (cases_lt (length old) at) [
 ]
 
 -- a write of fewer bytes in the range
-over_torn : (old bytes : List ℕ) (at n : ℕ) → length bytes ≤ n → Torn at n old (over old at bytes)
+pub over_torn : (old bytes : List ℕ) (at n : ℕ) → length bytes ≤ n → Torn at n old (over old at bytes)
 over_torn old bytes at n le = record {
   before = grind (arith, common_steps);
   after = over_after old bytes at n le;

@@ -1,7 +1,11 @@
-ghost use Rattle.std.specs.Prelude.{◌≡◌, ◌+◌, ◌<◌, ◌≤◌, ◌^◌, None, IsTrue};
-ghost use Rattle.disk_calls.specs.Disk.{DiskState, Rose};
+ghost use Rattle.std.specs.Prelude.{◌≡◌, ◌+◌, ◌<◌, ◌≤◌, ◌^◌, ◌↔◌, None, IsTrue, IfOk, OnOk, OnErr};
+ghost use Rattle.std.specs.String.{string_bytes};
+ghost use Rattle.disk_calls.specs.Disk.{Rose};
+ghost use Rattle.member_disk.specs.Counting.{risen};
+ghost use Rattle.member_disk.specs.Paths.{folder_of, path_of};
 
-use disk_calls::{Disk, DiskDid, DiskNames, DiskSize, FileId, FileName};
+use crate::paths::{folder_in, path_in};
+use disk_calls::{Disk, DiskDid, DiskNames, DiskSize, FileId, file_of};
 use frame_wire::Row;
 use std::alloc::{AllocError, Global};
 use std::fs::{OpenFile, OpenOptions};
@@ -18,17 +22,26 @@ use std::{fs, io};
 /// - `cut` sets the file's length. Nothing is sure then.
 /// - `sync` syncs the file, then the stream's folder, which names the file, then the whole folder, which
 ///   names the stream's folder. So a file that was made stands after it.
-/// - `remove` unlinks the file and syncs the stream's folder. So the removal stands after `Done`.
+/// - After a sync that failed the system may count what it could not write as written, so the next sync
+///   of that file alone would promise too much. Therefore a file is noted before its sync and forgotten
+///   once that is done; where it is noted already, `sync` first writes all of its bytes again, as a read
+///   gives them. Until that is done a read may give older bytes: who reads after a sync that is done,
+///   as `read_file` does, never sees them.
+/// - `remove` unlinks the file and syncs the stream's folder, also where it finds no file: one that an
+///   earlier call unlinked may not be gone on the disk. So the removal stands after `Done`.
+/// - `names` fails where the listing fails before its end. A stream without a folder has no files.
 #[derive(Drop)]
 pub struct DirDisk<R: Files + AllocGlobal + Clone + Drop> {
     rt: R,
     root: String,
     faults: u64,
+    // the files of which a sync was begun, and none was done since
+    unsure: Vec<FileId>,
 }
 
 // Whether a write ends within the greatest size.
 fn fits(place: u64, len: usize) -> bool
-    ensures { IsTrue result → place + len < 2 ^ 63 }
+    ensures { IsTrue result ↔ (place + len < 2 ^ 63) }
 {
     match place.checked_add(len as u64) {
         Some(end) => end < 1 << 63,
@@ -36,83 +49,72 @@ fn fits(place: u64, len: usize) -> bool
     }
 }
 
+// Counts a fault.
+fn count(faults: &mut u64)
+    ensures one { faults.new ≡ risen faults.old }
+    ensures later { faults.old ≤ faults.new }
+    ensures rose { Rose faults.old faults.new }
+{
+    *faults = faults.saturating_add(1);
+}
+
 // The answer, counted where it is a fault.
 fn outcome(faults: &mut u64, done: io::Result<()>) -> DiskDid
+    ensures ok { OnOk done ((result ≡ DiskDid.Done) × (faults.new ≡ faults.old)) }
+    ensures err { OnErr done ((result ≡ DiskDid.Failed) × (faults.new ≡ risen faults.old)) }
     ensures later { faults.old ≤ faults.new }
-    ensures failed { result ≡ DiskDid.Failed → Rose faults.old faults.new }
+    ensures rose { result ≡ DiskDid.Failed → Rose faults.old faults.new }
 {
     match done {
         Ok(()) => DiskDid::Done,
         Err(_) => {
-            *faults = faults.saturating_add(1);
+            count(faults);
             DiskDid::Failed
         }
     }
 }
 
-fn name_of(alloc: Global, file: FileName) -> Result<String, AllocError> {
-    match file {
-        FileName::Segment(first) => format!(in alloc; "{first:020}.segment"),
-        FileName::Index(first) => format!(in alloc; "{first:020}.index"),
-        FileName::Promise => String::from_str(alloc, "promise.words"),
-        FileName::Epochs => String::from_str(alloc, "epochs.words"),
-        FileName::CatalogWords => String::from_str(alloc, "catalog.words"),
-        FileName::CatalogBytes => String::from_str(alloc, "catalog.bytes"),
-        FileName::PromiseTwo => String::from_str(alloc, "promise.words2"),
-        FileName::EpochsTwo => String::from_str(alloc, "epochs.words2"),
-        FileName::CatalogWordsTwo => String::from_str(alloc, "catalog.words2"),
-    }
+// Whether a file is noted.
+fn is_noted(unsure: &[FileId], id: FileId) -> bool {
+    unsure.iter().any(|f| *f == id)
 }
 
-// The number in 20 digits before an ending.
-fn number_before(name: &str, end: &str) -> Option<u64> {
-    let digits = name.strip_suffix(end)?;
-    if digits.len() != 20 {
-        return None;
-    }
-    digits.parse::<u64>().ok()
+// Notes a file.
+fn note(unsure: &mut Vec<FileId>, id: FileId) -> Result<(), AllocError> {
+    unsure.push(id)?;
+    Ok(())
 }
 
-// The file with a name, if it is one of ours.
-fn file_of(name: &str) -> Option<FileName> {
-    if let Some(first) = number_before(name, ".segment") {
-        return Some(FileName::Segment(first));
-    }
-    if let Some(first) = number_before(name, ".index") {
-        return Some(FileName::Index(first));
-    }
-    match name {
-        "promise.words" => Some(FileName::Promise),
-        "epochs.words" => Some(FileName::Epochs),
-        "catalog.words" => Some(FileName::CatalogWords),
-        "catalog.bytes" => Some(FileName::CatalogBytes),
-        "promise.words2" => Some(FileName::PromiseTwo),
-        "epochs.words2" => Some(FileName::EpochsTwo),
-        "catalog.words2" => Some(FileName::CatalogWordsTwo),
-        _ => None,
-    }
+// Forgets a file.
+fn forget(unsure: &mut Vec<FileId>, id: FileId) {
+    unsure.retain(|f| *f != id);
 }
 
 impl<R: Files + AllocGlobal + Clone + Drop> DirDisk<R> {
     /// The files of the folder `root`, which is to be there.
     pub fn new(rt: R, root: String) -> DirDisk<R>
-        ensures { result.faults ≡ 0 }
+        ensures faults { result.faults ≡ 0 }
+        ensures root { result.root ≡ root }
     {
+        let unsure = Vec::new(rt.alloc());
         DirDisk {
             rt,
             root,
             faults: 0,
+            unsure,
         }
     }
 
-    fn folder(&self, stream: u32) -> Result<String, AllocError> {
-        format!(in self.rt.alloc(); "{}/{}", self.root, stream)
+    fn folder(&self, stream: u32) -> Result<String, AllocError>
+        ensures { IfOk result (λ path. string_bytes path ≡ folder_of (string_bytes self.now.root) stream) }
+    {
+        folder_in(self.rt.alloc(), self.root.as_str(), stream)
     }
 
-    fn path(&self, id: FileId) -> Result<String, AllocError> {
-        let folder = self.folder(id.stream)?;
-        let name = name_of(self.rt.alloc(), id.file)?;
-        format!(in self.rt.alloc(); "{folder}/{name}")
+    fn path(&self, id: FileId) -> Result<String, AllocError>
+        ensures { IfOk result (λ path. string_bytes path ≡ path_of (string_bytes self.now.root) id) }
+    {
+        path_in(self.rt.alloc(), self.root.as_str(), id)
     }
 
     fn read_file(&self, id: FileId, place: u64, buf: &mut [u8]) -> io::Result<()> {
@@ -134,30 +136,59 @@ impl<R: Files + AllocGlobal + Clone + Drop> DirDisk<R> {
         file.write_all(bytes)
     }
 
+    // Writes the bytes of a file again, as a read gives them, so that a sync writes all of them.
+    fn write_again(&self, id: FileId) -> io::Result<()> {
+        let path = self.path(id)?;
+        let bytes = fs::read(&self.rt, &path)?;
+        let mut file = OpenOptions::new().write(true).open(&self.rt, &path)?;
+        file.write_all(&bytes)
+    }
+
     fn cut_file(&self, id: FileId, size: u64) -> io::Result<()> {
         let path = self.path(id)?;
         let file = OpenOptions::new().write(true).open(&self.rt, &path)?;
         file.set_len(size)
     }
 
+    // Syncs the folder of a stream. One that is missing names no file.
+    fn sync_folder(&self, stream: u32) -> io::Result<()> {
+        let folder = self.folder(stream)?;
+        match fs::open(&self.rt, &folder) {
+            Ok(folder) => folder.sync_all(),
+            Err(error) if error.kind() == ErrorKind::NotFound => Ok(()),
+            Err(error) => Err(error),
+        }
+    }
+
     fn sync_file(&self, id: FileId) -> io::Result<()> {
         let path = self.path(id)?;
         fs::open(&self.rt, &path)?.sync_all()?;
-        let folder = self.folder(id.stream)?;
-        fs::open(&self.rt, &folder)?.sync_all()?;
+        self.sync_folder(id.stream)?;
         fs::open(&self.rt, &self.root)?.sync_all()
+    }
+
+    // Syncs a file, which is noted while that is not done.
+    fn sync_noted(&mut self, id: FileId) -> io::Result<()>
+        ensures { self.new.faults ≡ self.old.faults }
+    {
+        if is_noted(&self.unsure, id) {
+            self.write_again(id)?;
+        } else {
+            note(&mut self.unsure, id)?;
+        }
+        self.sync_file(id)?;
+        forget(&mut self.unsure, id);
+        Ok(())
     }
 
     fn remove_file(&self, id: FileId) -> io::Result<()> {
         let path = self.path(id)?;
         if let Err(error) = fs::remove_file(&self.rt, &path) {
-            if error.kind() == ErrorKind::NotFound {
-                return Ok(());
+            if error.kind() != ErrorKind::NotFound {
+                return Err(error);
             }
-            return Err(error);
         }
-        let folder = self.folder(id.stream)?;
-        fs::open(&self.rt, &folder)?.sync_all()
+        self.sync_folder(id.stream)
     }
 
     fn size_of_file(&self, id: FileId) -> io::Result<u64> {
@@ -168,7 +199,12 @@ impl<R: Files + AllocGlobal + Clone + Drop> DirDisk<R> {
 
     fn read_names(&self, stream: u32, found: &mut Row<FileId>) -> io::Result<()> {
         let folder = self.folder(stream)?;
-        for entry in fs::read_dir(&self.rt, &folder)? {
+        let entries = match fs::read_dir(&self.rt, &folder) {
+            Ok(entries) => entries,
+            Err(error) if error.kind() == ErrorKind::NotFound => return Ok(()),
+            Err(error) => return Err(error),
+        };
+        for entry in entries {
             let entry = entry?;
             if let Some(file) = file_of(entry.file_name()) {
                 if let Err(_) = found.push(FileId { stream, file }) {
@@ -192,7 +228,7 @@ impl<R: Files + AllocGlobal + Clone + Drop> Disk for DirDisk<R> {
             Ok(size) if size < 1 << 63 => DiskSize::Size(size),
             Err(error) if error.kind() == ErrorKind::NotFound => DiskSize::Missing,
             _ => {
-                self.faults = self.faults.saturating_add(1);
+                count(&mut self.faults);
                 DiskSize::Failed
             }
         }
@@ -205,7 +241,7 @@ impl<R: Files + AllocGlobal + Clone + Drop> Disk for DirDisk<R> {
 
     fn write_at(&mut self, id: FileId, place: u64, bytes: &[u8]) -> DiskDid {
         if !fits(place, bytes.len()) {
-            self.faults = self.faults.saturating_add(1);
+            count(&mut self.faults);
             return DiskDid::Failed;
         }
         let done = self.write_file(id, place, bytes);
@@ -218,7 +254,7 @@ impl<R: Files + AllocGlobal + Clone + Drop> Disk for DirDisk<R> {
     }
 
     fn sync(&mut self, id: FileId) -> DiskDid {
-        let done = self.sync_file(id);
+        let done = self.sync_noted(id);
         outcome(&mut self.faults, done)
     }
 
@@ -231,14 +267,11 @@ impl<R: Files + AllocGlobal + Clone + Drop> Disk for DirDisk<R> {
         let mut found = Row::new(alloc);
         match self.read_names(stream, &mut found) {
             Ok(()) => Ok(DiskNames::Names(found)),
-            Err(error) => match error.kind() {
-                ErrorKind::NotFound => Ok(DiskNames::Names(Row::new(alloc))),
-                ErrorKind::OutOfMemory => Err(AllocError),
-                _ => {
-                    self.faults = self.faults.saturating_add(1);
-                    Ok(DiskNames::Failed)
-                }
-            },
+            Err(error) if error.kind() == ErrorKind::OutOfMemory => Err(AllocError),
+            Err(_) => {
+                count(&mut self.faults);
+                Ok(DiskNames::Failed)
+            }
         }
     }
 }

@@ -6,6 +6,7 @@ mod memory_disk;
 mod memory_file;
 mod memory_map;
 mod memory_stream;
+mod paths;
 
 pub use dir_disk::DirDisk;
 pub use disk_calls::{

@@ -1,10 +1,11 @@
 ghost use Rattle.std.specs.Prelude.{◌≡◌, ◌+◌, ◌-◌, ◌<◌, ◌≤◌, ◌^◌, ◌++◌, ◌∷◌, [], ℕ, length, take, drop, true, Some, None, Ok, OnOk, OnErr, ⊤};
 ghost use Rattle.disk_calls.specs.Disk.{DiskState, HasCause, Looks, Changes, Only, TornFile, CutFile, RemovedFile, bytes_of, over, Sizes, Names, IsThere, LeftByCrash};
+ghost use Rattle.member_disk.specs.Counting.{CountsFault};
 ghost use Rattle.member_disk.specs.FilesInOrder.{without};
 ghost use Rattle.member_disk.specs.Memory.{seen_of, sure, with_call};
 ghost use Rattle.member_disk.specs.Settings.{falls_due};
 ghost use Rattle.member_disk.specs.Streams.{Crashes, Stays, no_files};
-ghost use Rattle.member_disk.specs.MemoryDisks.{OnStream, Counts, Does, DoesSome, FailsExactly, files_in, held_in, state_of};
+ghost use Rattle.member_disk.specs.MemoryDisks.{OnStream, Counts, Does, FailsExactly, files_in, held_in, state_of};
 ghost use Rattle.member_disk.specs.TornDone.{all_done_tears};
 
 use crate::memory_file::Call;
@@ -92,6 +93,7 @@ impl Disk for MemoryDisk {
         ensures cause { HasCause (result ≡ DiskSize.Failed) (state_of self.old.streams self.old.faults) (state_of self.new.streams self.new.faults) }
         ensures counts { OnStream id.stream Counts self.old.streams self.new.streams }
         ensures fails { FailsExactly (result ≡ DiskSize.Failed) (falls_due (files_in self.old.streams id.stream).settings) self.old.refused self.new.refused }
+        ensures counted { CountsFault (result ≡ DiskSize.Failed) self.old.faults self.new.faults }
     {
         if count_in(&mut self.streams, id.stream) {
             answer(&mut self.faults, &mut self.refused, Happened::Due);
@@ -110,6 +112,7 @@ impl Disk for MemoryDisk {
         ensures cause { HasCause (result ≡ DiskDid.Failed) (state_of self.old.streams self.old.faults) (state_of self.new.streams self.new.faults) }
         ensures counts { OnStream id.stream Counts self.old.streams self.new.streams }
         ensures fails { FailsExactly (result ≡ DiskDid.Failed) (falls_due (files_in self.old.streams id.stream).settings) self.old.refused self.new.refused }
+        ensures counted { CountsFault (result ≡ DiskDid.Failed) self.old.faults self.new.faults }
     {
         if count_in(&mut self.streams, id.stream) {
             return answer(&mut self.faults, &mut self.refused, Happened::Due);
@@ -126,6 +129,7 @@ impl Disk for MemoryDisk {
         ensures done { result ≡ DiskDid.Done → OnStream id.stream (Does id.file (λ h. with_call h (Call.Write place bytes.now)) (λ fs. fs ++ id.file ∷ [])) self.old.streams self.new.streams }
         ensures failed { result ≡ DiskDid.Failed → OnStream id.stream Counts self.old.streams self.new.streams }
         ensures fails { FailsExactly (result ≡ DiskDid.Failed) (falls_due (files_in self.old.streams id.stream).settings) self.old.refused self.new.refused }
+        ensures counted { CountsFault (result ≡ DiskDid.Failed) self.old.faults self.new.faults }
     {
         let did = write_counted(self.alloc, &mut self.streams, id, place, bytes);
         answer(&mut self.faults, &mut self.refused, did)
@@ -139,6 +143,7 @@ impl Disk for MemoryDisk {
         ensures done { result ≡ DiskDid.Done → OnStream id.stream (Does id.file (λ h. with_call h (Call.Cut size)) (λ fs. fs)) self.old.streams self.new.streams }
         ensures failed { result ≡ DiskDid.Failed → OnStream id.stream Counts self.old.streams self.new.streams }
         ensures fails { FailsExactly (result ≡ DiskDid.Failed) (falls_due (files_in self.old.streams id.stream).settings) self.old.refused self.new.refused }
+        ensures counted { CountsFault (result ≡ DiskDid.Failed) self.old.faults self.new.faults }
     {
         let did = cut_counted(&mut self.streams, id, size);
         answer(&mut self.faults, &mut self.refused, did)
@@ -149,9 +154,9 @@ impl Disk for MemoryDisk {
         ensures durable { result ≡ DiskDid.Done → Only ((state_of self.new.streams self.new.faults).seen id) ((state_of self.new.streams self.new.faults).images id) }
         ensures cause { HasCause (result ≡ DiskDid.Failed) (state_of self.old.streams self.old.faults) (state_of self.new.streams self.new.faults) }
         ensures done { result ≡ DiskDid.Done → OnStream id.stream (Does id.file (λ h. sure (seen_of h)) (without id.file)) self.old.streams self.new.streams }
-        ensures due { falls_due (files_in self.old.streams id.stream).settings ≡ true → OnStream id.stream Counts self.old.streams self.new.streams }
-        ensures failed { result ≡ DiskDid.Failed → OnStream id.stream (DoesSome id.file) self.old.streams self.new.streams }
+        ensures failed { result ≡ DiskDid.Failed → OnStream id.stream Counts self.old.streams self.new.streams }
         ensures fails { FailsExactly (result ≡ DiskDid.Failed) (falls_due (files_in self.old.streams id.stream).settings) self.old.refused self.new.refused }
+        ensures counted { CountsFault (result ≡ DiskDid.Failed) self.old.faults self.new.faults }
     {
         let did = sync_counted(&mut self.streams, id);
         answer(&mut self.faults, &mut self.refused, did)
@@ -166,6 +171,7 @@ impl Disk for MemoryDisk {
         ensures done { result ≡ DiskDid.Done → OnStream id.stream (Does id.file (λ h. sure None) (without id.file)) self.old.streams self.new.streams }
         ensures failed { result ≡ DiskDid.Failed → OnStream id.stream Counts self.old.streams self.new.streams }
         ensures fails { FailsExactly (result ≡ DiskDid.Failed) (falls_due (files_in self.old.streams id.stream).settings) self.old.refused self.new.refused }
+        ensures counted { CountsFault (result ≡ DiskDid.Failed) self.old.faults self.new.faults }
     {
         let did = remove_counted(&mut self.streams, id);
         answer(&mut self.faults, &mut self.refused, did)
@@ -177,6 +183,7 @@ impl Disk for MemoryDisk {
         ensures cause { HasCause (result ≡ Ok DiskNames.Failed) (state_of self.old.streams self.old.faults) (state_of self.new.streams self.new.faults) }
         ensures counts { OnStream stream Counts self.old.streams self.new.streams }
         ensures fails { FailsExactly (result ≡ Ok DiskNames.Failed) (falls_due (files_in self.old.streams stream).settings) self.old.refused self.new.refused }
+        ensures counted { CountsFault (result ≡ Ok DiskNames.Failed) self.old.faults self.new.faults }
     {
         if count_in(&mut self.streams, stream) {
             answer(&mut self.faults, &mut self.refused, Happened::Due);

@@ -1,6 +1,7 @@
 ghost use Rattle.std.specs.Prelude.{◌≡◌, ◌+◌, ◌≤◌, ◌++◌, ◌∷◌, [], ℕ, Some, None, true, length, take, drop, IfOk, OnOk, OnErr};
 ghost use Rattle.disk_calls.specs.Disk.{Image, bytes_of, over};
-ghost use Rattle.member_disk.specs.Memory.{Held, ImageOf, IsCrashed, IsSizeOf, Surer, done, all_done, has_write, torn_call, torn_last, half, all_a5, seen_of, sure, with_call};
+ghost use Rattle.member_disk.specs.Memory.{Held, ImageOf, IsCrashed, IsSizeOf, done, all_done, has_write, torn_call, torn_last, half, all_a5, seen_of, sure, with_call};
+ghost use Rattle.member_disk.specs.Undone.{given_back, part_of, takes, undone};
 
 use byte_pieces::Pieces;
 use frame_wire::Octets;
@@ -12,6 +13,19 @@ use std::marker::Model;
 pub enum Call {
     Write { place: usize, bytes: Octets },
     Cut { size: usize },
+}
+
+/// What a call took from a file.
+#[derive(Debug, Drop)]
+pub enum Took {
+    /// The file was missing.
+    Missing,
+    /// These bytes stood at this place, and the file had this size.
+    Bytes {
+        place: usize,
+        bytes: Octets,
+        size: usize,
+    },
 }
 
 // Writes to a file, which is made where it is missing.
@@ -57,47 +71,128 @@ fn redo(alloc: Global, file: &mut Option<Pieces>, call: &Call) -> Result<(), All
     }
 }
 
+// The bytes at a place, at most so many.
+fn bytes_at(alloc: Global, held: &Pieces, place: usize, most: usize) -> Result<Octets, AllocError>
+    ensures { IfOk result (λ bytes. bytes ≡ take most (drop place held.now)) }
+{
+    let place = place.min(held.len());
+    let count = most.min(held.len() - place);
+    let mut buf = Vec::from_elem(alloc, 0, count)?;
+    held.read(place, &mut buf);
+    Octets::copy(alloc, &buf)
+}
+
+// The bytes of a file at a place, at most so many, and its size.
+fn part(alloc: Global, file: &Option<Pieces>, place: usize, most: usize) -> Result<Took, AllocError>
+    ensures { IfOk result (λ t. t ≡ part_of place most file.now) }
+{
+    match file {
+        Some(held) => {
+            let bytes = bytes_at(alloc, held, place, most)?;
+            Ok(Took::Bytes {
+                place,
+                bytes,
+                size: held.len(),
+            })
+        }
+        None => Ok(Took::Missing),
+    }
+}
+
+// Keeps a call and what it takes, or neither.
+fn keep(
+    calls: &mut Vec<Call>,
+    took: &mut Vec<Took>,
+    call: Call,
+    taken: Took,
+) -> Result<(), AllocError>
+    ensures ok { OnOk result ((calls.new.items ≡ calls.old.items ++ call ∷ []) × (took.new.items ≡ took.old.items ++ taken ∷ [])) }
+    ensures err { OnErr result ((calls.new.items ≡ calls.old.items) × (took.new.items ≡ took.old.items)) }
+{
+    calls.push(call)?;
+    if let Err(_) = took.push(taken) {
+        calls.pop();
+        return Err(AllocError);
+    }
+    Ok(())
+}
+
 // Does a write and keeps it as a call, or does neither.
 fn put_call(
     alloc: Global,
     calls: &mut Vec<Call>,
+    took: &mut Vec<Took>,
     file: &mut Option<Pieces>,
     place: usize,
     bytes: &[u8],
 ) -> Result<(), AllocError>
-    ensures ok { OnOk result ((calls.new.items ≡ calls.old.items ++ Call.Write place bytes.now ∷ []) × (file.new ≡ done (Call.Write place bytes.now) file.old)) }
-    ensures err { OnErr result ((calls.new.items ≡ calls.old.items) × (file.new ≡ file.old)) }
+    ensures ok { OnOk result ((calls.new.items ≡ calls.old.items ++ Call.Write place bytes.now ∷ []) × (took.new.items ≡ took.old.items ++ takes (Call.Write place bytes.now) file.old ∷ []) × (file.new ≡ done (Call.Write place bytes.now) file.old)) }
+    ensures err { OnErr result ((calls.new.items ≡ calls.old.items) × (took.new.items ≡ took.old.items) × (file.new ≡ file.old)) }
 {
+    let taken = part(alloc, file, place, bytes.len())?;
     let kept = Octets::copy(alloc, bytes)?;
-    calls.push(Call::Write { place, bytes: kept })?;
+    keep(calls, took, Call::Write { place, bytes: kept }, taken)?;
     if let Err(fault) = put_file(alloc, file, place, bytes) {
         calls.pop();
+        took.pop();
         return Err(fault);
     }
     Ok(())
 }
 
-// Cuts a file and keeps that as a call, or does neither.
-fn cut_call(calls: &mut Vec<Call>, file: &mut Option<Pieces>, size: usize) -> Result<(), AllocError>
-    ensures ok { OnOk result ((calls.new.items ≡ calls.old.items ++ Call.Cut size ∷ []) × (file.new ≡ done (Call.Cut size) file.old)) }
-    ensures err { OnErr result ((calls.new.items ≡ calls.old.items) × (file.new ≡ file.old)) }
+// The number of bytes of a file, none where it is missing.
+fn size_of(file: &Option<Pieces>) -> usize
+    ensures { result ≡ length (bytes_of file.now) }
 {
-    calls.push(Call::Cut { size })?;
+    match file {
+        Some(held) => held.len(),
+        None => 0,
+    }
+}
+
+// Cuts a file and keeps that as a call, or does neither.
+fn cut_call(
+    alloc: Global,
+    calls: &mut Vec<Call>,
+    took: &mut Vec<Took>,
+    file: &mut Option<Pieces>,
+    size: usize,
+) -> Result<(), AllocError>
+    ensures ok { OnOk result ((calls.new.items ≡ calls.old.items ++ Call.Cut size ∷ []) × (took.new.items ≡ took.old.items ++ takes (Call.Cut size) file.old ∷ []) × (file.new ≡ done (Call.Cut size) file.old)) }
+    ensures err { OnErr result ((calls.new.items ≡ calls.old.items) × (took.new.items ≡ took.old.items) × (file.new ≡ file.old)) }
+{
+    let taken = part(alloc, file, size, size_of(file))?;
+    keep(calls, took, Call::Cut { size }, taken)?;
     cut_file(file, size);
     Ok(())
 }
 
-// Does calls up to the first that finds no memory, and says how many.
-fn redo_some(alloc: Global, file: &mut Option<Pieces>, calls: &[Call]) -> usize
-    ensures within { result ≤ length calls.now }
-    ensures redone { file.new ≡ all_done (take result calls.now) file.old }
+// Gives back what a call took.
+fn give_back(alloc: Global, file: &mut Option<Pieces>, taken: &Took) -> Result<(), AllocError>
+    ensures { OnOk result (file.new ≡ given_back taken.now file.old) }
 {
-    for (i, call) in calls.iter().enumerate() {
-        if let Err(_) = redo(alloc, file, call) {
-            return i;
+    match taken {
+        Took::Missing => {
+            *file = None;
+            Ok(())
+        }
+        Took::Bytes { place, bytes, size } => {
+            cut_file(file, *size);
+            put_file(alloc, file, *place, bytes.as_slice())
         }
     }
-    calls.len()
+}
+
+// Gives back what calls took, of the last one first.
+fn undo(alloc: Global, file: &mut Option<Pieces>, took: &[Took]) -> Result<(), AllocError>
+    ensures { OnOk result (file.new ≡ undone took.now file.old) }
+{
+    let mut left = took.len();
+    while left > 0 {
+        left -= 1;
+        give_back(alloc, file, &took[left])?;
+    }
+    Ok(())
 }
 
 fn any_write(calls: &[Call]) -> bool
@@ -180,63 +275,49 @@ fn copy(file: &Option<Pieces>) -> Result<Option<Pieces>, AllocError>
 // What a crash leaves.
 fn image_after(
     alloc: Global,
-    base: &Option<Pieces>,
-    calls: &[Call],
     now: &Option<Pieces>,
+    calls: &[Call],
+    took: &[Took],
     image: u8,
     is_last: bool,
 ) -> Result<Option<Pieces>, AllocError>
     requires few { image ≤ 3 }
-    requires follows { now.now ≡ all_done calls.now base.now }
-    ensures picked { IfOk result (λ next. IsCrashed image (is_last ≡ true) (record { base = base.now; calls = calls.now }) next) }
+    requires follows { now.now ≡ all_done calls.now (undone took.now now.now) }
+    ensures picked { IfOk result (λ next. IsCrashed image (is_last ≡ true) (record { base = undone took.now now.now; calls = calls.now }) next) }
 {
-    if image == 0 {
-        return copy(base);
+    let mut next = copy(now)?;
+    if image == 1 {
+        return Ok(next);
     }
-    if image == 1 || !is_last {
-        return copy(now);
+    if image > 1 && !is_last {
+        return Ok(next);
     }
-    let mut next = copy(base)?;
-    tear_last(alloc, &mut next, calls, image)?;
+    undo(alloc, &mut next, took)?;
+    if image > 1 {
+        tear_last(alloc, &mut next, calls, image)?;
+    }
     Ok(next)
 }
 
-// Does calls on what the last sync left, and forgets those that were done.
-fn sync_calls(
-    alloc: Global,
-    base: &mut Option<Pieces>,
-    calls: &mut Vec<Call>,
-) -> Result<(), AllocError>
-    ensures all { OnOk result ((base.new ≡ all_done calls.old.items base.old) × (calls.new.items ≡ [])) }
-    ensures some { OnErr result (Surer (record { base = base.old; calls = calls.old.items }) (record { base = base.new; calls = calls.new.items })) }
-{
-    let count = redo_some(alloc, base, calls);
-    if count == calls.len() {
-        calls.clear();
-        return Ok(());
-    }
-    calls.drain(..count);
-    Err(AllocError)
-}
-
-/// A file in memory: what the last sync left of it, and the calls since.
+/// A file in memory: its bytes, the calls that no sync has followed, and what each of them took from it.
 #[derive(Debug, Drop)]
 pub struct MemoryFile {
     alloc: Global,
-    base: Option<Pieces>,
-    calls: Vec<Call>,
     seen: Option<Pieces>,
+    calls: Vec<Call>,
+    took: Vec<Took>,
 }
 
 impl Model for MemoryFile {
     ghost use Rattle.std.specs.Prelude.{◌≡◌};
     ghost use Rattle.member_disk.specs.Memory.{Held, all_done};
+    ghost use Rattle.member_disk.specs.Undone.{undone};
 
     ghost Value = { Held };
 
-    ghost view = { λ f. record { base = f.base; calls = f.calls.items } };
+    ghost view = { λ f. record { base = undone f.took.items f.seen; calls = f.calls.items } };
 
-    ghost invariant = { λ f. f.seen ≡ all_done f.calls.items f.base };
+    ghost invariant = { λ f. f.seen ≡ all_done f.calls.items (undone f.took.items f.seen) };
 }
 
 impl MemoryFile {
@@ -246,9 +327,9 @@ impl MemoryFile {
     {
         MemoryFile {
             alloc,
-            base: None,
-            calls: Vec::new(alloc),
             seen: None,
+            calls: Vec::new(alloc),
+            took: Vec::new(alloc),
         }
     }
 
@@ -272,29 +353,39 @@ impl MemoryFile {
         }
     }
 
-    #[tactic(auto, using(crate::proofs::Tearing::all_done_push))]
     pub fn write_at(&mut self, place: usize, bytes: &[u8]) -> Result<(), AllocError>
         ensures ok { OnOk result (self.new ≡ with_call self.old (Call.Write place bytes.now)) }
         ensures err { OnErr result (self.new ≡ self.old) }
     {
-        put_call(self.alloc, &mut self.calls, &mut self.seen, place, bytes)
+        put_call(
+            self.alloc,
+            &mut self.calls,
+            &mut self.took,
+            &mut self.seen,
+            place,
+            bytes,
+        )
     }
 
-    #[tactic(auto, using(crate::proofs::Tearing::all_done_push))]
     pub fn cut(&mut self, size: usize) -> Result<(), AllocError>
         ensures ok { OnOk result (self.new ≡ with_call self.old (Call.Cut size)) }
         ensures err { OnErr result (self.new ≡ self.old) }
     {
-        cut_call(&mut self.calls, &mut self.seen, size)
+        cut_call(
+            self.alloc,
+            &mut self.calls,
+            &mut self.took,
+            &mut self.seen,
+            size,
+        )
     }
 
-    /// Does the calls on what the last sync left. Where memory runs out those that it came to are sure.
-    #[tactic(auto, using(crate::proofs::Crashes::surer_same))]
-    pub fn sync(&mut self) -> Result<(), AllocError>
-        ensures ok { OnOk result (self.new ≡ sure (seen_of self.old)) }
-        ensures err { OnErr result (Surer self.old self.new) }
+    /// Forgets the calls, so that the file is sure as it is.
+    pub fn sync(&mut self)
+        ensures { self.new ≡ sure (seen_of self.old) }
     {
-        sync_calls(self.alloc, &mut self.base, &mut self.calls)
+        self.calls.clear();
+        self.took.clear();
     }
 
     /// The file as a crash leaves it. `is_last` says whether the last write of its stream that no sync of its file has followed is in it.
@@ -305,20 +396,19 @@ impl MemoryFile {
         ensures image { IfOk result (λ f. ImageOf self.now f.base) }
         ensures sure { IfOk result (λ f. f.calls ≡ []) }
     {
-        let base = image_after(
+        let seen = image_after(
             self.alloc,
-            &self.base,
-            &self.calls,
             &self.seen,
+            &self.calls,
+            &self.took,
             image,
             is_last,
         )?;
-        let seen = copy(&base)?;
         Ok(MemoryFile {
             alloc: self.alloc,
-            base,
-            calls: Vec::new(self.alloc),
             seen,
+            calls: Vec::new(self.alloc),
+            took: Vec::new(self.alloc),
         })
     }
 }

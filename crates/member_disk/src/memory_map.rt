@@ -3,10 +3,10 @@ ghost use Rattle.std.specs.Ordering.{nat_cmp};
 ghost use Rattle.std.specs.BTreeMap.{get};
 ghost use Rattle.disk_calls.specs.Disk.{AreNames, bytes_of};
 ghost use Rattle.member_disk.specs.FilesInOrder.{without};
-ghost use Rattle.member_disk.specs.Memory.{Held, IsSizeOf, Surer, seen_of, sure, with_call};
+ghost use Rattle.member_disk.specs.Memory.{Held, IsSizeOf, seen_of, sure, with_call};
 ghost use Rattle.member_disk.specs.Settings.{falls_due};
 ghost use Rattle.member_disk.specs.Streams.{Stream, Moves, Stays, Crashes, stream_of, no_files, names_there};
-ghost use Rattle.member_disk.specs.MemoryDisks.{OnStream, Counts, Does, DoesSome, Takes, Answers, stream_at, files_in, held_in};
+ghost use Rattle.member_disk.specs.MemoryDisks.{OnStream, Counts, Does, Takes, Answers, stream_at, files_in, held_in};
 
 use crate::memory_file::Call;
 use crate::memory_stream::MemoryStream;
@@ -111,14 +111,12 @@ pub fn cut_in(
     files.cut(id.file, size)
 }
 
-pub fn sync_in(streams: &mut BTreeMap<u32, MemoryStream>, id: FileId) -> Result<(), AllocError>
-    ensures ok { OnOk result (OnStream id.stream (λ s t. Moves id.file (sure (seen_of (s.held id.file))) (without id.file s.order) s t) streams.old streams.new) }
-    ensures err { OnErr result (OnStream id.stream (λ s t. (file : Held) × Surer (s.held id.file) file × Moves id.file file s.order s t) streams.old streams.new) }
+pub fn sync_in(streams: &mut BTreeMap<u32, MemoryStream>, id: FileId)
+    ensures { OnStream id.stream (λ s t. Moves id.file (sure (seen_of (s.held id.file))) (without id.file s.order) s t) streams.old streams.new }
 {
-    let Some(files) = streams.get_mut(&id.stream) else {
-        return Ok(());
-    };
-    files.sync(id.file)
+    if let Some(files) = streams.get_mut(&id.stream) {
+        files.sync(id.file);
+    }
 }
 
 pub fn remove_in(streams: &mut BTreeMap<u32, MemoryStream>, id: FileId)
@@ -226,15 +224,13 @@ pub fn cut_counted(streams: &mut BTreeMap<u32, MemoryStream>, id: FileId, size: 
 }
 
 pub fn sync_counted(streams: &mut BTreeMap<u32, MemoryStream>, id: FileId) -> Happened
-    ensures { Takes result (falls_due (files_in streams.old id.stream).settings) (OnStream id.stream (Does id.file (λ h. sure (seen_of h)) (without id.file)) streams.old streams.new) (OnStream id.stream Counts streams.old streams.new) (OnStream id.stream (DoesSome id.file) streams.old streams.new) }
+    ensures { Takes result (falls_due (files_in streams.old id.stream).settings) (OnStream id.stream (Does id.file (λ h. sure (seen_of h)) (without id.file)) streams.old streams.new) (OnStream id.stream Counts streams.old streams.new) (OnStream id.stream Counts streams.old streams.new) }
 {
     if count_in(streams, id.stream) {
         return Happened::Due;
     }
-    match sync_in(streams, id) {
-        Ok(()) => Happened::Done,
-        Err(_) => Happened::Refused,
-    }
+    sync_in(streams, id);
+    Happened::Done
 }
 
 pub fn remove_counted(streams: &mut BTreeMap<u32, MemoryStream>, id: FileId) -> Happened

@@ -1,7 +1,7 @@
 ghost use Rattle.std.specs.Prelude.{◌≡◌, ◌≢◌, ◌+◌, ◌≤◌, ◌++◌, ◌∷◌, [], ℕ, Some, None, true, not, filter, length, take, drop, IfOk, OnOk, OnErr, IsSome, IsTrue, ◌↔◌, ◌==◌, ◌-◌, map};
 ghost use Rattle.std.specs.BTreeMap.{get};
 ghost use Rattle.disk_calls.specs.Disk.{AreNames, Image, bytes_of};
-ghost use Rattle.member_disk.specs.Memory.{CrashedFile, Held, ImageOf, IsCrashed, IsSizeOf, Surer, seen_of, sure, with_call, held_at};
+ghost use Rattle.member_disk.specs.Memory.{CrashedFile, Held, ImageOf, IsCrashed, IsSizeOf, seen_of, sure, with_call, held_at};
 ghost use Rattle.member_disk.specs.FilesInOrder.{same, without, last_of};
 ghost use Rattle.member_disk.specs.Streams.{Moves, Stays, Crashes, stream_of, no_files, names_there};
 ghost use Rattle.member_disk.specs.Settings.{falls_due, after_call};
@@ -99,15 +99,13 @@ fn cut_file(
     file.cut(size)
 }
 
-fn sync_file(files: &mut BTreeMap<FileName, MemoryFile>, name: FileName) -> Result<(), AllocError>
-    ensures ok { OnOk result (held_at (get ⟦<FileName as Ord>⟧.cmp files.new name) ≡ sure (seen_of (held_at (get ⟦<FileName as Ord>⟧.cmp files.old name)))) }
-    ensures err { OnErr result (Surer (held_at (get ⟦<FileName as Ord>⟧.cmp files.old name)) (held_at (get ⟦<FileName as Ord>⟧.cmp files.new name))) }
+fn sync_file(files: &mut BTreeMap<FileName, MemoryFile>, name: FileName)
+    ensures own { held_at (get ⟦<FileName as Ord>⟧.cmp files.new name) ≡ sure (seen_of (held_at (get ⟦<FileName as Ord>⟧.cmp files.old name))) }
     ensures others { (f : _) → f ≢ name → get ⟦<FileName as Ord>⟧.cmp files.new f ≡ get ⟦<FileName as Ord>⟧.cmp files.old f }
 {
-    let Some(file) = files.get_mut(&name) else {
-        return Ok(());
-    };
-    file.sync()
+    if let Some(file) = files.get_mut(&name) {
+        file.sync();
+    }
 }
 
 fn remove_file(files: &mut BTreeMap<FileName, MemoryFile>, name: FileName)
@@ -288,13 +286,11 @@ impl MemoryStream {
         cut_file(&mut self.files, name, size)
     }
 
-    pub fn sync(&mut self, name: FileName) -> Result<(), AllocError>
-        ensures ok { OnOk result (Moves name (sure (seen_of ((stream_of self.old).held name))) (without name self.old.order.items) (stream_of self.old) (stream_of self.new)) }
-        ensures err { OnErr result ((file : Held) × Surer ((stream_of self.old).held name) file × Moves name file self.old.order.items (stream_of self.old) (stream_of self.new)) }
+    pub fn sync(&mut self, name: FileName)
+        ensures { Moves name (sure (seen_of ((stream_of self.old).held name))) (without name self.old.order.items) (stream_of self.old) (stream_of self.new) }
     {
-        sync_file(&mut self.files, name)?;
+        sync_file(&mut self.files, name);
         forget(&mut self.order, name);
-        Ok(())
     }
 
     pub fn remove(&mut self, name: FileName)
