@@ -1,0 +1,11 @@
+use Rattle.tracking_state.specs.Tracked.{offset_entry}
+use Rattle.tracking_state.proofs.Calls.{put_right, put_more}
+use Rattle.tracking_state.proofs.tracking.put_consumers.Goals as goal
+
+pub put_snapshot-requires : goal.put_snapshot-requires
+put_snapshot-requires c = put_right offset_entry c.args.consumers.now c.loop-index.index (c.at-offset.result.0.now, c.at-offset.result.1) c.requires c.at-offset.ensures
+
+pub loop-index-preserved : goal.loop-index-preserved
+loop-index-preserved c =
+    put_more offset_entry c.args.consumers.now c.loop-index.index (c.at-offset.result.0.now, c.at-offset.result.1) c.args.out.now c.loop-index.out c.put_snapshot.new.out c.at-offset.ensures c.loop-index.invariant
+    c.in_ok-put_snapshot.ensures.ok

@@ -1,0 +1,10 @@
+//! What a log says by name: the greatest ids of publishers and the last offsets that consumers stored.
+#![tactic(auto)]
+
+mod named;
+mod note;
+mod said;
+mod tracking;
+
+pub use note::Latest;
+pub use tracking::{Tracking, first_untruthful};
