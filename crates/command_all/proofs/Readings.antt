@@ -107,11 +107,14 @@ same_ends max small rest (TooLarge size) (Unspelt fault) h k = absurd (large_beg
 same_ends max small rest (TooLarge size) (TooLarge other) h k = ap (λ (n : ℕ). TooLarge n) (sym h.is_size ∙ k.is_size)
 
 -- any bytes may follow, but where the frame is not whole yet
-ends_stay : (max : ℕ) (rest more : List ℕ) (end : ReadingEnd) → (end ≡ Partial → ⊥) → EndsAs max rest end → EndsAs max (rest ++ more) end
-ends_stay max rest more Partial other h = absurd (other refl)
-ends_stay max rest more (Unspelt fault) other h =
+pub unspelt_after : (max : ℕ) (rest more : List ℕ) (fault : DecodeFault) → BeginsUnspelt max rest fault → BeginsUnspelt max (rest ++ more) fault
+unspelt_after max rest more fault h =
     let b = h.frame in
     record { frame = record { body = b.body; more = b.more ++ more; fits = b.fits; framed = ap (λ (r : List ℕ). r ++ more) b.framed ∙ append_assoc (frame b.body) b.more more }; wrong = h.wrong }
+
+ends_stay : (max : ℕ) (rest more : List ℕ) (end : ReadingEnd) → (end ≡ Partial → ⊥) → EndsAs max rest end → EndsAs max (rest ++ more) end
+ends_stay max rest more Partial other h = absurd (other refl)
+ends_stay max rest more (Unspelt fault) other h = unspelt_after max rest more fault h
 ends_stay max rest more (TooLarge size) other h = large_after max rest more size h
 
 -- ---- one reading
