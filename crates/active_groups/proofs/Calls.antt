@@ -1,16 +1,25 @@
 -- What each call does, by the place that it found.
-use Rattle.std.proofs.Common.{◌≡◌, ◌==◌, ◌<◌, ℕ, suc, Bool, true, false, List, [], ◌∷◌, ◌++◌, length, Option, Some, None, Result, Ok, Err, OnOk, OnErr, filter, position, slice_index_or, refl, sym, ap, ◌∙◌, arith}
-use Rattle.std.specs.List.{All, list_any}
+use Rattle.std.proofs.Common.{◌≡◌, not, cond, slice_set, IsTrue, IfNone, IfSome, zero, ◌==◌, ◌<◌, ℕ, suc, Bool, true, false, List, [], ◌∷◌, ◌++◌, length, Option, Some, None, Result, Ok, Err, OnOk, OnErr, filter, position, slice_index_or, refl, sym, ap, ◌∙◌, arith}
+use Rattle.std.specs.List.{All, list_any, find}
 use Rattle.std.specs.Option.{option_map}
+use Rattle.std.proofs.lemmas.Bool.{eqb-true}
+use Rattle.std.proofs.lemmas.List.Quantifiers.{position-Some}
 use Rattle.std.proofs.lemmas.Grind.{common_steps}
 use Rattle.active_groups.specs.declared.consumer.ConsumerId.{ConsumerId}
+use Rattle.active_groups.specs.declared.consumer.GroupState.{GroupState}
+use Rattle.active_groups.specs.declared.consumer.GroupState.TheVariants.{Waiting, Starting, Active, Stopping}
 use Rattle.active_groups.specs.declared.consumer.Seat.{Seat}
 use Rattle.active_groups.specs.declared.consumer.Change.{Change}
 use Rattle.active_groups.specs.Seating.{Seating, is_of, sits, seats_one, state_in, state_at, state_of, is_active, is_open}
-use Rattle.active_groups.specs.Changes.{at_place, at_first, wanted, change_at, told, tells, with_state, after_answer, answered_seat, answered}
-use Rattle.active_groups.specs.Steps.{with_consumer, new_group, joined, without, has_seats, left, change_in, first_change, polled, is_awaited, all_answered, ChangesAt, TellsAt, AnswersAt, AreGroups}
+use Rattle.active_groups.specs.Changes.{at_place, at_first, wanted, change_at, told, is_change_for, tells, with_state, after_answer, answered_seat, answered}
+use Rattle.active_groups.specs.Steps.{with_consumer, new_group, joined, without, has_seats, left, change_in, first_change, polled, is_awaited, replied, ChangesAt, TellsAt, AnswersAt, AreGroups}
 use Rattle.active_groups.proofs.Kept.{joined_are}
 use Rattle.active_groups.proofs.Places.{changed, unchanged, found, missing, any, none, set_there}
+
+back : {A : Type 0} (xs : List A) (i : ℕ) (x : A) → x ≡ slice_index_or xs i x → slice_set xs i x ≡ xs
+back [] i x h = refl
+back (y ∷ xs) zero x h = ap (λ v. v ∷ xs) h
+back (y ∷ xs) (suc i) x h = ap (λ l. y ∷ l) (back xs i x h)
 
 -- ---- in a group
 
@@ -43,18 +52,56 @@ pub poll_told : (session : ℕ) (gs : List Seating) (i : ℕ) (change : Option C
 poll_told session gs i change new h e =
     (e.2 ∙ ap change_in (sym (found (tells session) gs i e.0 h e.1)), e.3 ∙ changed (tells session) told gs i e.0 h e.1)
 
+for_session : (session : ℕ) (o : Option Change) → is_change_for session o ≡ true → IfSome o (λ change. change.consumer.session ≡ session)
+for_session session None h = absurd cc
+for_session session (Some change) h = eqb-true change.consumer.session session h
+
+not_nothing : {A : Type 0} (session : ℕ) (o : Option Change) (new old : A) → is_change_for session o ≡ true → IfNone o (new ≡ old)
+not_nothing session None new old h = absurd cc
+not_nothing session (Some change) new old h = tt
+
+told_there : (session : ℕ) (gs : List Seating) (i : ℕ) (change : Option Change) (new : List Seating) → position (tells session) gs ≡ Some i → TellsAt i gs change new → is_change_for session change ≡ true
+told_there session gs i change new h e = ap (is_change_for session) e.2 ∙ ap (tells session) e.1 ∙ (position-Some (tells session) gs i e.0 h).1
+
+pub poll_session : (session : ℕ) (gs : List Seating) (i : ℕ) (change : Option Change) (new : List Seating) → position (tells session) gs ≡ Some i → TellsAt i gs change new → IfSome change (λ c. c.consumer.session ≡ session)
+poll_session session gs i change new h e = for_session session change (told_there session gs i change new h e)
+
+pub poll_changed : {A : Type 0} (session : ℕ) (gs : List Seating) (i : ℕ) (change : Option Change) (new : List Seating) (a b : A) → position (tells session) gs ≡ Some i → TellsAt i gs change new → IfNone change (a ≡ b)
+poll_changed session gs i change new a b h e = not_nothing session change a b (told_there session gs i change new h e)
+
 pub state_none : (consumer : ConsumerId) (gs : List Seating) → position (sits consumer) gs ≡ None → None ≡ state_of gs consumer
 state_none consumer gs h = ap (λ (o : Option Seating). state_at o consumer) (sym (missing (sits consumer) gs h))
 
 pub state_there : (consumer : ConsumerId) (gs : List Seating) (i : ℕ) (g : Seating) → position (sits consumer) gs ≡ Some i → g ≡ slice_index_or gs i g → state_in g.seats consumer ≡ state_of gs consumer
 state_there consumer gs i g h is = ap (λ (o : Option Seating). state_at o consumer) (sym (found (sits consumer) gs i g h is))
 
-pub answer_none : (consumer : ConsumerId) (gs : List Seating) → position (sits consumer) gs ≡ None → (false ≡ is_awaited (state_of gs consumer)) × (gs ≡ all_answered consumer gs)
+pub answer_none : (consumer : ConsumerId) (gs : List Seating) → position (sits consumer) gs ≡ None → (false ≡ is_awaited (state_of gs consumer)) × (gs ≡ replied consumer gs)
 answer_none consumer gs h = (ap is_awaited (state_none consumer gs h), sym (unchanged (sits consumer) (answered consumer) gs h))
 
-pub answer_there : (consumer : ConsumerId) (gs : List Seating) (i : ℕ) (awaited : Bool) (new : List Seating) → position (sits consumer) gs ≡ Some i → AnswersAt i consumer gs awaited new → (awaited ≡ is_awaited (state_of gs consumer)) × (new ≡ all_answered consumer gs)
+pub answer_there : (consumer : ConsumerId) (gs : List Seating) (i : ℕ) (awaited : Bool) (new : List Seating) → position (sits consumer) gs ≡ Some i → AnswersAt i consumer gs awaited new → (awaited ≡ is_awaited (state_of gs consumer)) × (new ≡ replied consumer gs)
 answer_there consumer gs i awaited new h e =
     (e.2 ∙ ap is_awaited (state_there consumer gs i e.0 h e.1), e.3 ∙ changed (sits consumer) (answered consumer) gs i e.0 h e.1)
+
+shut_state : (state : GroupState) → is_open state ≡ false → after_answer state ≡ state
+shut_state Waiting h = refl
+shut_state Starting h = absurd cc
+shut_state Active h = refl
+shut_state Stopping h = absurd cc
+
+shut_by : (consumer : ConsumerId) (s : Seat) (seats more : List Seat) (b : Bool) → is_awaited (option_map (λ (s : Seat). s.state) (cond b (Some s) (find (seats_one consumer) seats))) ≡ false → (is_awaited (state_in seats consumer) ≡ false → more ≡ seats) →
+    cond b (answered_seat s ∷ seats) (s ∷ more) ≡ s ∷ seats
+shut_by consumer s seats more true h rest = ap (λ (state : GroupState). with_state state s ∷ seats) (shut_state s.state h)
+shut_by consumer s seats more false h rest = ap (λ (l : List Seat). s ∷ l) (rest h)
+
+shut : (consumer : ConsumerId) (seats : List Seat) → is_awaited (state_in seats consumer) ≡ false → at_first (seats_one consumer) answered_seat seats ≡ seats
+shut consumer [] h = refl
+shut consumer (s ∷ seats) h = shut_by consumer s seats (at_first (seats_one consumer) answered_seat seats) (seats_one consumer s) h (shut consumer seats)
+
+pub answer_unchanged : (consumer : ConsumerId) (gs : List Seating) (i : ℕ) (awaited : Bool) (new : List Seating) → AnswersAt i consumer gs awaited new → IsTrue (not awaited) → new ≡ gs
+answer_unchanged consumer gs i true new e h = absurd cc
+answer_unchanged consumer gs i false new e h =
+    let same : answered consumer e.0 ≡ e.0 = ap (λ (seats : List Seat). record e.0 { seats = seats }) (shut consumer e.0.seats (sym e.2)) in
+    e.3 ∙ ap (slice_set gs i) same ∙ back gs i e.0 e.1
 
 keep : (gs : List Seating) → All (λ g. 0 < length g.seats) gs → filter has_seats gs ≡ gs
 keep [] all = refl

@@ -9,7 +9,7 @@ use Rattle.active_groups.specs.declared.consumer.Seat.{Seat}
 use Rattle.active_groups.specs.Seating.{Seating, same_bytes, same_text, is_of, sits, seats_one, same_consumer, state_in, state_at, state_of, is_busy, is_active, is_open, AtMostOne}
 use Rattle.active_groups.specs.Changes.{at_place, at_first, wanted, turn_of, change_at, told_as, told, tells, with_state, after_answer, answered_seat, answered}
 use Rattle.active_groups.proofs.Places.{there, nowhere}
-use Rattle.active_groups.specs.Steps.{with_consumer, new_group, joined, without, has_seats, left, polled, all_answered, places_of, AreGroups}
+use Rattle.active_groups.specs.Steps.{with_consumer, new_group, joined, without, has_seats, left, polled, replied, places_of, AreGroups}
 
 -- ---- of each group
 
@@ -250,7 +250,7 @@ polled_are session gs are = record {
   one_each = λ stream name. omega (arith, same_first (is_of stream name) (tells session) told gs (λ g. told_name stream name g (change_at g)), are.one_each stream name);
 }
 
-pub answered_are : (one : ConsumerId) (gs : List Seating) → AreGroups gs → AreGroups (all_answered one gs)
+pub answered_are : (one : ConsumerId) (gs : List Seating) → AreGroups gs → AreGroups (replied one gs)
 answered_are one gs are = record {
   one_busy = first-All (λ g. AtMostOne g.seats) (sits one) (answered one) gs (λ g few. omega (arith, few, calmer (seats_one one) g.seats)) are.one_busy;
   seated = first-All (λ g. 0 < length g.seats) (sits one) (answered one) gs (λ g some. omega (arith, some, length-at_first (seats_one one) answered_seat g.seats)) are.seated;

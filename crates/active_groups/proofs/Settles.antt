@@ -11,7 +11,7 @@ use Rattle.active_groups.specs.declared.consumer.Seat.{Seat}
 use Rattle.active_groups.specs.declared.consumer.Change.{Change}
 use Rattle.active_groups.specs.Seating.{Seating, sits, seats_one, is_busy, is_active, is_open, AtMostOne}
 use Rattle.active_groups.specs.Changes.{at_place, at_first, wanted, turn_of, change_for, change_as, change_of, told_as, told, is_change_for, tells, with_state, answered_seat, answered}
-use Rattle.active_groups.specs.Steps.{GroupEvent, Joins, Leaves, Polls, Answers, polled, all_answered, AreGroups}
+use Rattle.active_groups.specs.Steps.{GroupEvent, Joins, Leaves, Polls, Answers, polled, replied, AreGroups}
 use Rattle.active_groups.specs.Settling.{TurnsRun, told_at, changes_in, IsCalm, IsActiveSeat, IsSettled}
 use Rattle.active_groups.proofs.Places.{there, nowhere}
 use Rattle.active_groups.proofs.Kept.{same_first, length-at_first, length-at_place, none_active, head-All, tail-All, polled_are, answered_are}
@@ -285,10 +285,10 @@ answer_later : (consumer : ConsumerId) (g : Seating) (gs more : List Seating) (p
 answer_later consumer g gs more place true rest = refl
 answer_later consumer g gs more place false rest = rest
 
-answer_turns : (consumer : ConsumerId) (gs : List Seating) (place : ℕ) → turns_at (all_answered consumer gs) place ≡ turns_at gs place
+answer_turns : (consumer : ConsumerId) (gs : List Seating) (place : ℕ) → turns_at (replied consumer gs) place ≡ turns_at gs place
 answer_turns consumer [] place = refl
-answer_turns consumer (g ∷ gs) zero = answer_first consumer g gs (all_answered consumer gs) (sits consumer g)
-answer_turns consumer (g ∷ gs) (suc place) = answer_later consumer g gs (all_answered consumer gs) place (sits consumer g) (answer_turns consumer gs place)
+answer_turns consumer (g ∷ gs) zero = answer_first consumer g gs (replied consumer gs) (sits consumer g)
+answer_turns consumer (g ∷ gs) (suc place) = answer_later consumer g gs (replied consumer gs) place (sits consumer g) (answer_turns consumer gs place)
 
 run_turns : (events : List GroupEvent) (old new : List Seating) (place : ℕ) → AreGroups old → TurnsRun old events new → changes_in old events place + turns_at new place ≡ turns_at old place
 run_turns [] old new place are run = zero-add (turns_at new place) ∙ ap (λ gs. turns_at gs place) run
@@ -299,7 +299,7 @@ run_turns (Polls session change ∷ events) old new place are run =
     omega (arith, run_turns events (polled session old) new place (polled_are session old are) rest, poll_turns session old place are.one_busy are.seated)
 run_turns (Answers consumer awaited ∷ events) old new place are run =
     let rest = subst (λ gs. TurnsRun gs events new) run.1.1.1 run.1.2 in
-    omega (arith, run_turns events (all_answered consumer old) new place (answered_are consumer old are) rest, answer_turns consumer old place)
+    omega (arith, run_turns events (replied consumer old) new place (answered_are consumer old are) rest, answer_turns consumer old place)
 
 pub at_most_two : (events : List GroupEvent) (old new : List Seating) (place : ℕ) → AreGroups old → TurnsRun old events new → changes_in old events place ≤ 2
 at_most_two events old new place are run = omega (arith, run_turns events old new place are run, few_turns old place)

@@ -5,7 +5,7 @@ use Rattle.active_groups.specs.declared.consumer.GroupState.TheVariants.{Active}
 use Rattle.active_groups.specs.declared.consumer.Seat.{Seat}
 use Rattle.active_groups.specs.Seating.{Seating, is_open}
 use Rattle.active_groups.specs.Changes.{wanted, tells}
-use Rattle.active_groups.specs.Steps.{GroupEvent, Joins, Leaves, Polls, Answers, GroupStep, joined, left, polled, all_answered}
+use Rattle.active_groups.specs.Steps.{GroupEvent, Joins, Leaves, Polls, Answers, GroupStep, joined, left, polled, replied}
 
 -- a poll or an answer
 abbrev pub IsTurn : GroupEvent → Type 0
@@ -31,7 +31,7 @@ changes_in gs [] place = 0
 changes_in gs (Joins stream name index consumer ∷ events) place = changes_in (joined stream name index consumer gs) events place
 changes_in gs (Leaves consumer ∷ events) place = changes_in (left consumer gs) events place
 changes_in gs (Polls session change ∷ events) place = told_at session gs place + changes_in (polled session gs) events place
-changes_in gs (Answers consumer awaited ∷ events) place = changes_in (all_answered consumer gs) events place
+changes_in gs (Answers consumer awaited ∷ events) place = changes_in (replied consumer gs) events place
 
 -- no answer of a consumer is awaited
 abbrev pub IsCalm : Seating → Type 0

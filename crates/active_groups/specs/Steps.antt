@@ -50,8 +50,9 @@ abbrev pub is_awaited : Option GroupState → Bool
 is_awaited None = false
 is_awaited (Some state) = is_open state
 
-abbrev pub all_answered : ConsumerId → List Seating → List Seating
-all_answered consumer gs = at_first (sits consumer) (answered consumer) gs
+-- the groups once a consumer answered
+abbrev pub replied : ConsumerId → List Seating → List Seating
+replied consumer gs = at_first (sits consumer) (answered consumer) gs
 
 -- ---- the steps
 
@@ -68,7 +69,7 @@ abbrev pub GroupStep : List Seating → GroupEvent → List Seating → Type 0
 GroupStep old (Joins stream name index consumer) new = new ≡ joined stream name index consumer old
 GroupStep old (Leaves consumer) new = new ≡ left consumer old
 GroupStep old (Polls session change) new = (change ≡ first_change session old) × (new ≡ polled session old)
-GroupStep old (Answers consumer awaited) new = (awaited ≡ is_awaited (state_of old consumer)) × (new ≡ all_answered consumer old)
+GroupStep old (Answers consumer awaited) new = (awaited ≡ is_awaited (state_of old consumer)) × (new ≡ replied consumer old)
 
 -- ---- one group of all
 

@@ -1,6 +1,6 @@
 //! All groups.
 
-ghost use Rattle.std.specs.Prelude.{◌≡◌, [], ◌<◌, length, filter, position, None, IfOk, IfSome, OnOk, OnErr};
+ghost use Rattle.std.specs.Prelude.{◌≡◌, [], ◌<◌, length, filter, position, not, None, IsTrue, IfOk, IfSome, IfNone, OnOk, OnErr};
 ghost use Rattle.active_groups.specs.Seating.{is_of, sits, state_of};
 ghost use Rattle.active_groups.specs.Changes.{tells};
 ghost use Rattle.active_groups.specs.Steps.{GroupStep, Joins, Leaves, Polls, Answers, ChangesAt, TellsAt, AnswersAt, new_group, with_consumer, without, has_seats, AreGroups};
@@ -159,7 +159,9 @@ impl Groups {
     /// The first change, in the order of the groups' making, that is for a consumer of this session. It counts as
     /// told: nobody of that group is told more before the consumer has answered.
     pub fn poll(&mut self, session: u32) -> Option<Change>
-        ensures { GroupStep self.old (Polls session result) self.new }
+        ensures step { GroupStep self.old (Polls session result) self.new }
+        ensures session { IfSome result (λ change. change.consumer.session ≡ session) }
+        ensures unchanged { IfNone result (self.new ≡ self.old) }
     {
         let place = group_to_tell(self.groups.as_slice(), session)?;
         tell_at(&mut self.groups, place)
@@ -168,7 +170,8 @@ impl Groups {
     /// A consumer answers what it was told: one that is starting is active then, and one that is stopping waits.
     /// `false` where no answer of it was awaited, and then nothing changes.
     pub fn answered(&mut self, consumer: ConsumerId) -> bool
-        ensures { GroupStep self.old (Answers consumer result) self.new }
+        ensures step { GroupStep self.old (Answers consumer result) self.new }
+        ensures unchanged { IsTrue (not result) → self.new ≡ self.old }
     {
         match group_with(self.groups.as_slice(), consumer) {
             None => false,
