@@ -2,7 +2,7 @@
 use Rattle.std.proofs.Common.{◌≡◌, ◌≢◌, ◌↔◌, IsTrue, inl, inr, ℕ, Bool, true, cond, List, [], ◌∷◌, Option, Some, None, sym, ◌∙◌, ap, subst}
 use Rattle.std.specs.BTreeMap.{BTreeMap, get, is_at}
 use Rattle.std.specs.Map.{lookup}
-use Rattle.member_disk.specs.Memory.{Held, IsCrashed, ImageOf, CrashedFile, held_at}
+use Rattle.memory_file.specs.Memory.{Held, IsCrashed, ImageOf, CrashedFile, held_at}
 use Rattle.member_disk.specs.FilesInOrder.{last_of}
 use Rattle.disk_calls.specs.declared.file_id.FileName.{FileName}
 use Rattle.disk_calls.specs.contracts.file_id.FileNameOrd.TheImpl as ordered

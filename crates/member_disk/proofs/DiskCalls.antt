@@ -3,21 +3,21 @@ use Rattle.std.proofs.Common.{◌≡◌, ◌≢◌, inl, inr, ℕ, Bool, List, [
 use Rattle.std.proofs.lemmas.Bool.{cases_eq}
 use Rattle.std.specs.BTreeMap.{BTreeMap}
 use Rattle.disk_calls.specs.Disk.{Image, Changes, Elsewhere, Looks, AreNames, RemovedFile, IsThere, LeftByCrash, bytes_of}
-use Rattle.member_disk.specs.Memory.{Held, ImageOf, Tears, TearsAll, done, all_done, seen_of, sure, with_call}
+use Rattle.memory_file.specs.Memory.{Held, ImageOf, Tears, TearsAll, done, all_done, seen_of, sure, with_call}
 use Rattle.member_disk.specs.Streams.{Stream, Moves, Crashes}
 use Rattle.member_disk.specs.MemoryDisks.{OnStream, Counts, Does, Takes, Answers, files_in, held_in, state_of}
-use Rattle.member_disk.specs.TornDone.{all_done_tears}
+use Rattle.memory_file.specs.TornDone.{all_done_tears}
 use Rattle.std.specs.declared.alloc.AllocError.{AllocError}
 use Rattle.disk_calls.specs.declared.disk.DiskDid.{DiskDid}
 use Rattle.disk_calls.specs.declared.disk.DiskDid.TheVariants as did
 use Rattle.disk_calls.specs.declared.file_id.FileName.{FileName}
 use Rattle.disk_calls.specs.declared.file_id.FileId.{FileId}
-use Rattle.member_disk.specs.declared.memory_file.Call.{Call}
-use Rattle.member_disk.specs.declared.memory_file.Call.TheVariants as call
+use Rattle.memory_file.specs.declared.file.Call.{Call}
+use Rattle.memory_file.specs.declared.file.Call.TheVariants as call
 use Rattle.member_disk.specs.declared.memory_map.Happened.{Happened}
 use Rattle.member_disk.specs.declared.memory_map.Happened.TheVariants as happened
 use Rattle.member_disk.specs.declared.memory_stream.MemoryStream.{MemoryStream}
-use Rattle.member_disk.proofs.Tearing.{tears_last, stays, all_done_push}
+use Rattle.memory_file.proofs.Tearing.{tears_last, stays, all_done_push}
 use Rattle.member_disk.proofs.Names.{cases_at}
 use Rattle.member_disk.proofs.NamesThere.{names_elsewhere}
 

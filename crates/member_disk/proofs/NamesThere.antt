@@ -10,7 +10,7 @@ use Rattle.std.specs.declared.cmp.Ordering.TheVariants.{Less}
 use Rattle.std.specs.Option.{is_some}
 use Rattle.std.proofs.lemmas.Map.Keys.{sorted_head, sorted_tail}
 use Rattle.disk_calls.specs.Disk.{Image, IsThere, AreNames}
-use Rattle.member_disk.specs.Memory.{Held, held_at, seen_of}
+use Rattle.memory_file.specs.Memory.{Held, held_at, seen_of}
 use Rattle.std.specs.Ordering.{nat_cmp}
 use Rattle.std.specs.declared.alloc.AllocError.{AllocError}
 use Rattle.member_disk.specs.Streams.{names_there, stream_of}

@@ -1,13 +1,12 @@
 pub mod Counting
 pub mod Paths
 pub mod FilesInOrder
-pub mod Memory
 pub mod Settings
 pub mod Streams
 pub mod MemoryDisks
-pub mod TornDone
-pub mod Undone
 pub use Rattle.disk_calls.specs.Disk
 pub use Rattle.disk_calls.specs.FileNames
 pub use Rattle.disk_calls.specs.Frames
 pub use Rattle.disk_calls.specs.Reading
+pub use Rattle.memory_file.specs.Memory
+pub use Rattle.memory_file.specs.TornDone

@@ -4,7 +4,7 @@ use Rattle.std.specs.Ordering.{nat_cmp}
 use Rattle.std.specs.BTreeMap.{BTreeMap, get}
 use Rattle.disk_calls.specs.Disk.{DiskState, Rose}
 use Rattle.member_disk.specs.Counting.{risen}
-use Rattle.member_disk.specs.Memory.{Held, ImageOf, seen_of}
+use Rattle.memory_file.specs.Memory.{Held, ImageOf, seen_of}
 use Rattle.member_disk.specs.Settings.{after_call}
 use Rattle.member_disk.specs.Streams.{Stream, Moves, Stays, stream_of, no_files}
 use Rattle.disk_calls.specs.declared.file_id.FileName.{FileName}

@@ -1,7 +1,7 @@
 -- The files of one stream of a disk in memory.
 use Rattle.std.specs.Prelude.{◌≡◌, ◌≢◌, ℕ, List, [], ◌∷◌, Some, None, is_some, if◌then◌else◌}
 use Rattle.std.specs.BTreeMap.{get}
-use Rattle.member_disk.specs.Memory.{Held, IsCrashed, ImageOf, held_at, seen_of, sure}
+use Rattle.memory_file.specs.Memory.{Held, IsCrashed, ImageOf, held_at, seen_of, sure}
 use Rattle.member_disk.specs.FilesInOrder.{last_of}
 use Rattle.disk_calls.specs.declared.file_id.FileName.{FileName}
 use Rattle.disk_calls.specs.declared.file_id.FileId.{FileId}

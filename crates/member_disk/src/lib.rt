@@ -3,7 +3,6 @@
 
 mod dir_disk;
 mod memory_disk;
-mod memory_file;
 mod memory_map;
 mod memory_stream;
 mod paths;

@@ -2,19 +2,19 @@ ghost use Rattle.std.specs.Prelude.{◌≡◌, ◌+◌, ◌-◌, ◌<◌, ◌≤
 ghost use Rattle.disk_calls.specs.Disk.{DiskState, HasCause, Looks, Changes, Only, TornFile, CutFile, RemovedFile, bytes_of, over, Sizes, Names, IsThere, LeftByCrash};
 ghost use Rattle.member_disk.specs.Counting.{CountsFault};
 ghost use Rattle.member_disk.specs.FilesInOrder.{without};
-ghost use Rattle.member_disk.specs.Memory.{seen_of, sure, with_call};
+ghost use Rattle.memory_file.specs.Memory.{seen_of, sure, with_call};
 ghost use Rattle.member_disk.specs.Settings.{falls_due};
 ghost use Rattle.member_disk.specs.Streams.{Crashes, Stays, no_files};
 ghost use Rattle.member_disk.specs.MemoryDisks.{OnStream, Counts, Does, FailsExactly, files_in, held_in, state_of};
-ghost use Rattle.member_disk.specs.TornDone.{all_done_tears};
+ghost use Rattle.memory_file.specs.TornDone.{all_done_tears};
 
-use crate::memory_file::Call;
 use crate::memory_map::{
     Happened, answer, count_in, crash_in, cut_counted, names_in, read_in, remove_counted, set_in,
     size_in, sync_counted, write_counted,
 };
 use crate::memory_stream::MemoryStream;
 use disk_calls::{Disk, DiskDid, DiskNames, DiskSize, FileId};
+use memory_file::Call;
 use std::alloc::{AllocError, Global};
 use std::collections::BTreeMap;
 

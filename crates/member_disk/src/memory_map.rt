@@ -3,15 +3,15 @@ ghost use Rattle.std.specs.Ordering.{nat_cmp};
 ghost use Rattle.std.specs.BTreeMap.{get};
 ghost use Rattle.disk_calls.specs.Disk.{AreNames, bytes_of};
 ghost use Rattle.member_disk.specs.FilesInOrder.{without};
-ghost use Rattle.member_disk.specs.Memory.{Held, IsSizeOf, seen_of, sure, with_call};
+ghost use Rattle.memory_file.specs.Memory.{Held, IsSizeOf, seen_of, sure, with_call};
 ghost use Rattle.member_disk.specs.Settings.{falls_due};
 ghost use Rattle.member_disk.specs.Streams.{Stream, Moves, Stays, Crashes, stream_of, no_files, names_there};
 ghost use Rattle.member_disk.specs.MemoryDisks.{OnStream, Counts, Does, Takes, Answers, stream_at, files_in, held_in};
 
-use crate::memory_file::Call;
 use crate::memory_stream::MemoryStream;
 use disk_calls::{DiskDid, FileId};
 use frame_wire::Row;
+use memory_file::Call;
 use std::alloc::{AllocError, Global};
 use std::collections::BTreeMap;
 

@@ -1,14 +1,14 @@
 ghost use Rattle.std.specs.Prelude.{◌≡◌, ◌≢◌, ◌+◌, ◌≤◌, ◌++◌, ◌∷◌, [], ℕ, Some, None, true, not, filter, length, take, drop, IfOk, OnOk, OnErr, IsSome, IsTrue, ◌↔◌, ◌==◌, ◌-◌, map};
 ghost use Rattle.std.specs.BTreeMap.{get};
 ghost use Rattle.disk_calls.specs.Disk.{AreNames, Image, bytes_of};
-ghost use Rattle.member_disk.specs.Memory.{CrashedFile, Held, ImageOf, IsCrashed, IsSizeOf, seen_of, sure, with_call, held_at};
+ghost use Rattle.memory_file.specs.Memory.{CrashedFile, Held, ImageOf, IsCrashed, IsSizeOf, seen_of, sure, with_call, held_at};
 ghost use Rattle.member_disk.specs.FilesInOrder.{same, without, last_of};
 ghost use Rattle.member_disk.specs.Streams.{Moves, Stays, Crashes, stream_of, no_files, names_there};
 ghost use Rattle.member_disk.specs.Settings.{falls_due, after_call};
 
-use crate::memory_file::{Call, MemoryFile};
 use disk_calls::{FileId, FileName};
 use frame_wire::Row;
+use memory_file::{Call, MemoryFile};
 use std::alloc::{AllocError, Global};
 use std::collections::BTreeMap;
 

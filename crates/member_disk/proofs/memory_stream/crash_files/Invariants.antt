@@ -1,7 +1,7 @@
 use Rattle.std.proofs.Common.{◌≡◌, Some, None}
 use Rattle.std.specs.BTreeMap.{get, is_at}
 use Rattle.std.specs.Map.{lookup}
-use Rattle.member_disk.specs.Memory.{CrashedFile, held_at}
+use Rattle.memory_file.specs.Memory.{CrashedFile, held_at}
 use Rattle.member_disk.specs.FilesInOrder.{last_of}
 use Rattle.disk_calls.specs.declared.file_id.FileName.{FileName}
 use Rattle.disk_calls.specs.contracts.file_id.FileNameOrd.TheImpl as ordered

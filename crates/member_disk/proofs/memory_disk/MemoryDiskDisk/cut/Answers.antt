@@ -1,5 +1,5 @@
 use Rattle.std.proofs.Common.{◌∙◌}
-use Rattle.member_disk.specs.declared.memory_file.Call.TheVariants as call
+use Rattle.memory_file.specs.declared.file.Call.TheVariants as call
 use Rattle.member_disk.proofs.DiskCalls.{did_changes, did_call, cut_there}
 use Rattle.member_disk.proofs.memory_disk.MemoryDiskDisk.cut.Goals as goal
 

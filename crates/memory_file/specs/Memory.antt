@@ -1,8 +1,8 @@
 -- The files of a disk in memory, and which image of each a crash takes.
 use Rattle.std.specs.Prelude.{◌≡◌, ℕ, ◌/◌, ◌^◌, ◌<◌, ◌≤◌, Bool, true, false, cond, List, [], ◌∷◌, ◌++◌, length, take, replicate, Option, Some, None}
 use Rattle.disk_calls.specs.Disk.{Image, bytes_of, TornFile, CutFile, over}
-use Rattle.member_disk.specs.declared.memory_file.Call.{Call}
-use Rattle.member_disk.specs.declared.memory_file.Call.TheVariants as call
+use Rattle.memory_file.specs.declared.file.Call.{Call}
+use Rattle.memory_file.specs.declared.file.Call.TheVariants as call
 
 -- what a call that is done makes of a file
 abbrev pub done : Call → Image → Image

@@ -1,7 +1,7 @@
 use Rattle.std.proofs.Common.{sym}
-use Rattle.member_disk.specs.declared.memory_file.Call.TheVariants as call
-use Rattle.member_disk.proofs.Undoing.{follows_on, kept_view}
-use Rattle.member_disk.proofs.memory_file.MemoryFile.cut.Goals as goal
+use Rattle.memory_file.specs.declared.file.Call.TheVariants as call
+use Rattle.memory_file.proofs.Undoing.{follows_on, kept_view}
+use Rattle.memory_file.proofs.file.MemoryFile.cut.Goals as goal
 
 pub invariant_of-self : goal.invariant_of-self
 invariant_of-self c = follows_on c.cut_call.result _ _ _ _ (call.Cut c.args.size) _ _ c.self.invariant c.cut_call.ensures.ok c.cut_call.ensures.err

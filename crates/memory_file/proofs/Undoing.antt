@@ -3,13 +3,13 @@ use Rattle.std.proofs.Common.{◌≡◌, inl, inr, ℕ, ◌+◌, ◌-◌, ◌≤
 use Rattle.std.proofs.lemmas.List.{take_all, drop_all, drop-drop, length-take, take_more}
 use Rattle.std.proofs.lemmas.Bool.{cases_lt}
 use Rattle.disk_calls.specs.Disk.{Image, over}
-use Rattle.member_disk.specs.Memory.{Held, done, all_done, with_call}
-use Rattle.member_disk.specs.TornDone.{over_torn, take_len}
-use Rattle.member_disk.specs.Undone.{takes, given_back, undone}
-use Rattle.member_disk.specs.declared.memory_file.Call.{Call}
-use Rattle.member_disk.specs.declared.memory_file.Call.TheVariants as call
-use Rattle.member_disk.specs.declared.memory_file.Took.{Took}
-use Rattle.member_disk.proofs.Tearing.{all_done_push}
+use Rattle.memory_file.specs.Memory.{Held, done, all_done, with_call}
+use Rattle.memory_file.specs.TornDone.{over_torn, take_len}
+use Rattle.memory_file.specs.Undone.{takes, given_back, undone}
+use Rattle.memory_file.specs.declared.file.Call.{Call}
+use Rattle.memory_file.specs.declared.file.Call.TheVariants as call
+use Rattle.memory_file.specs.declared.file.Took.{Took}
+use Rattle.memory_file.proofs.Tearing.{all_done_push}
 
 -- bytes at a place, between those before and those behind
 over_part : (m old : List ℕ) (at n : ℕ) → take at m ≡ take at old → drop (at + length (take n (drop at old))) m ≡ drop (at + length (take n (drop at old))) old → over m at (take n (drop at old)) ≡ old

@@ -1,6 +1,6 @@
 use Rattle.std.proofs.Common.{◌-◌, arith}
-use Rattle.member_disk.proofs.Undoing.{take_last, undone_step}
-use Rattle.member_disk.proofs.memory_file.undo.Goals as goal
+use Rattle.memory_file.proofs.Undoing.{take_last, undone_step}
+use Rattle.memory_file.proofs.file.undo.Goals as goal
 
 pub loop-left-preserved : goal.loop-left-preserved
 loop-left-preserved c =

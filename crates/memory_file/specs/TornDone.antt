@@ -4,9 +4,9 @@ use Rattle.std.proofs.lemmas.List.{drop_all, drop_at, drop-drop, length-take}
 use Rattle.std.proofs.lemmas.Bool.{cases_lt}
 use Rattle.std.proofs.lemmas.Grind.{common_steps}
 use Rattle.disk_calls.specs.Disk.{Image, bytes_of, Torn, TornFile, CutFile, over}
-use Rattle.member_disk.specs.Memory.{done, all_done, Tears, TearsAll}
-use Rattle.member_disk.specs.declared.memory_file.Call.{Call}
-use Rattle.member_disk.specs.declared.memory_file.Call.TheVariants as call
+use Rattle.memory_file.specs.Memory.{done, all_done, Tears, TearsAll}
+use Rattle.memory_file.specs.declared.file.Call.{Call}
+use Rattle.memory_file.specs.declared.file.Call.TheVariants as call
 
 pub take_len : (n : ℕ) (old : List ℕ) → take (length (take n old)) old ≡ take n old
 take_len zero old = refl

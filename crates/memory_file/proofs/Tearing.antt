@@ -2,10 +2,10 @@
 use Rattle.std.proofs.Common.{◌≡◌, ℕ, ◌≤◌, Bool, true, false, List, [], ◌∷◌, ◌++◌, length, Some, None, refl, sym, subst, arith}
 use Rattle.std.proofs.lemmas.List.{take_all}
 use Rattle.disk_calls.specs.Disk.{Image, TornFile}
-use Rattle.member_disk.specs.Memory.{done, all_done, Tears, TearsAll, has_write, torn_call, torn_last}
-use Rattle.member_disk.specs.TornDone.{take_min, over_file, cut_done, done_tears}
-use Rattle.member_disk.specs.declared.memory_file.Call.{Call}
-use Rattle.member_disk.specs.declared.memory_file.Call.TheVariants as call
+use Rattle.memory_file.specs.Memory.{done, all_done, Tears, TearsAll, has_write, torn_call, torn_last}
+use Rattle.memory_file.specs.TornDone.{take_min, over_file, cut_done, done_tears}
+use Rattle.memory_file.specs.declared.file.Call.{Call}
+use Rattle.memory_file.specs.declared.file.Call.TheVariants as call
 
 pub tears_last : (calls : List Call) (x : Call) (old new : Image) → TearsAll (calls ++ x ∷ []) old new → (d : Image) × TearsAll calls old d × Tears x d new
 tears_last [] x old new (mid, step, is) = (old, refl, subst (λ (c : Image). Tears x old c) (sym is) step)

@@ -2,9 +2,9 @@
 use Rattle.std.proofs.Common.{◌≡◌, inl, inr, ℕ, zero, suc, ◌/◌, ◌≤◌, Bool, true, false, List, length, ◌⊎◌, refl, sym, subst, arith}
 use Rattle.std.proofs.lemmas.List.{length-take, length-replicate}
 use Rattle.disk_calls.specs.Disk.{Image}
-use Rattle.member_disk.specs.Memory.{Held, ImageOf, IsCrashed, seen_of, half, all_a5}
-use Rattle.member_disk.proofs.Tearing.{all_stay, torn_last_tears}
-use Rattle.member_disk.specs.TornDone.{all_done_tears}
+use Rattle.memory_file.specs.Memory.{Held, ImageOf, IsCrashed, seen_of, half, all_a5}
+use Rattle.memory_file.proofs.Tearing.{all_stay, torn_last_tears}
+use Rattle.memory_file.specs.TornDone.{all_done_tears}
 
 half_less : (v : List ℕ) → length (half v) ≤ length v
 half_less v = omega (arith, length-take (length v / 2) v)

@@ -1,7 +1,7 @@
 ghost use Rattle.std.specs.Prelude.{◌≡◌, ◌+◌, ◌≤◌, ◌++◌, ◌∷◌, [], ℕ, Some, None, true, length, take, drop, IfOk, OnOk, OnErr};
 ghost use Rattle.disk_calls.specs.Disk.{Image, bytes_of, over};
-ghost use Rattle.member_disk.specs.Memory.{Held, ImageOf, IsCrashed, IsSizeOf, done, all_done, has_write, torn_call, torn_last, half, all_a5, seen_of, sure, with_call};
-ghost use Rattle.member_disk.specs.Undone.{given_back, part_of, takes, undone};
+ghost use Rattle.memory_file.specs.Memory.{Held, ImageOf, IsCrashed, IsSizeOf, done, all_done, has_write, torn_call, torn_last, half, all_a5, seen_of, sure, with_call};
+ghost use Rattle.memory_file.specs.Undone.{given_back, part_of, takes, undone};
 
 use byte_pieces::Pieces;
 use frame_wire::Octets;
@@ -310,8 +310,8 @@ pub struct MemoryFile {
 
 impl Model for MemoryFile {
     ghost use Rattle.std.specs.Prelude.{◌≡◌};
-    ghost use Rattle.member_disk.specs.Memory.{Held, all_done};
-    ghost use Rattle.member_disk.specs.Undone.{undone};
+    ghost use Rattle.memory_file.specs.Memory.{Held, all_done};
+    ghost use Rattle.memory_file.specs.Undone.{undone};
 
     ghost Value = { Held };
 

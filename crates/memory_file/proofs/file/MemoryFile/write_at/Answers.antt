@@ -1,7 +1,7 @@
 use Rattle.std.proofs.Common.{sym}
-use Rattle.member_disk.specs.declared.memory_file.Call.TheVariants as call
-use Rattle.member_disk.proofs.Undoing.{follows_on, kept_view}
-use Rattle.member_disk.proofs.memory_file.MemoryFile.write_at.Goals as goal
+use Rattle.memory_file.specs.declared.file.Call.TheVariants as call
+use Rattle.memory_file.proofs.Undoing.{follows_on, kept_view}
+use Rattle.memory_file.proofs.file.MemoryFile.write_at.Goals as goal
 
 pub invariant_of-self : goal.invariant_of-self
 invariant_of-self c = follows_on c.put_call.result _ _ _ _ (call.Write c.args.place c.args.bytes.now) _ _ c.self.invariant c.put_call.ensures.ok c.put_call.ensures.err

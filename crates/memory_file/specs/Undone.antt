@@ -1,10 +1,10 @@
 -- Calls on a file that are taken back.
 use Rattle.std.specs.Prelude.{ℕ, List, [], ◌∷◌, length, take, drop, Some, None}
 use Rattle.disk_calls.specs.Disk.{Image, bytes_of, over}
-use Rattle.member_disk.specs.declared.memory_file.Call.{Call}
-use Rattle.member_disk.specs.declared.memory_file.Call.TheVariants as call
-use Rattle.member_disk.specs.declared.memory_file.Took.{Took}
-use Rattle.member_disk.specs.declared.memory_file.Took.TheVariants as took
+use Rattle.memory_file.specs.declared.file.Call.{Call}
+use Rattle.memory_file.specs.declared.file.Call.TheVariants as call
+use Rattle.memory_file.specs.declared.file.Took.{Took}
+use Rattle.memory_file.specs.declared.file.Took.TheVariants as took
 
 -- the bytes of a file at a place, at most so many, and its size
 abbrev pub part_of : ℕ → ℕ → Image → Took
