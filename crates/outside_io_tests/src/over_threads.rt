@@ -1,4 +1,7 @@
-use outside_io::{Clock, MemorySpawner, Started, StdClock, StdSpawner, Work, start};
+use outside_io::{
+    Clock, MemoryLink, MemorySpawner, Started, StdClock, StdSpawner, StepClock, TcpLink, Work,
+    start,
+};
 use std::alloc::Global;
 use std::sync::{Arc, Condvar, Mutex, Wait};
 use std::test::Fail;
@@ -73,4 +76,17 @@ fn the_clock_of_the_machine_tells_the_time(rt: HostRuntime) {
     let first = clock.now();
     let second = clock.now();
     assert!(rt; A_PAST_MOMENT < first && first <= second);
+}
+
+// That values of this type may go into a thread is asked where this is called.
+fn may_go_into_a_thread<T: Send + 'static>() -> bool {
+    true
+}
+
+#[test]
+fn links_and_clocks_may_go_into_a_thread(rt: HostRuntime) {
+    assert!(rt; may_go_into_a_thread::<MemoryLink>());
+    assert!(rt; may_go_into_a_thread::<TcpLink>());
+    assert!(rt; may_go_into_a_thread::<StepClock>());
+    assert!(rt; may_go_into_a_thread::<StdClock<HostRuntime>>());
 }
