@@ -1,6 +1,8 @@
 pub mod Spelling
 pub mod Reading
+pub mod Loops
 pub mod Tearing
-pub mod Adding
+pub mod Apart
 pub mod Opening
-pub mod HandLemmas
+pub mod Hands
+pub mod Adding

@@ -1,48 +1,164 @@
--- What is found when a file is opened, and what a crash leaves of it then.
-use Rattle.std.proofs.Common.{◌≡◌, ◌⊎◌, inl, inr, ℕ, ◌+◌, ◌≤◌, List, [], ◌++◌, length, take, drop, Some, None, sym, ◌∙◌, ap, subst, arith, length-append}
-use Rattle.std.proofs.lemmas.List.{drop_all}
+-- What is found when files are opened, and what a crash leaves of them then.
+use Rattle.std.proofs.Common.{◌≡◌, ◌⊎◌, inl, inr, ℕ, ◌+◌, ◌*◌, ◌≤◌, ◌<◌, List, [], ◌++◌, length, take, drop, Some, None, refl, sym, ◌∙◌, ap, subst, arith, append_assoc, length-append, take-append-drop}
+use Rattle.std.proofs.lemmas.List.{append-nil, drop_at, take_all}
 use Rattle.disk_calls.specs.declared.file_id.FileId.{FileId}
-use Rattle.disk_calls.specs.Disk.{DiskState, Image, bytes_of, Settled, Looks, Only, over}
-use Rattle.disk_calls.proofs.Chain.{synced}
-use Rattle.gated_words.specs.Words.{header, spelled, Opens, Damages}
-use Rattle.gated_words.specs.Backing.{SamePairs, Held}
-use Rattle.gated_words.specs.Looking.{FindsPairs}
+use Rattle.disk_calls.specs.Disk.{DiskState, Image, bytes_of, Settled, Looks, Elsewhere, Only}
+use Rattle.disk_calls.proofs.FrameLemmas.{looks_then}
+use Rattle.gated_words.specs.declared.record.Form.{Form}
+use Rattle.gated_words.specs.declared.record.Form.TheVariants as form
+use Rattle.gated_words.specs.Words.{header, width, spelled, pairs_in, end_of, AllFit, GivenUp, NoneLeaves, OpensAs, DamagesAs}
+use Rattle.gated_words.specs.Files.{Files, HasSecond, Leaves, Opens, PairsOf, counting, form_of, seen_files, second_file}
+use Rattle.gated_words.specs.Backing.{EachBoth, KeepsPairs, SamePairs}
+use Rattle.gated_words.specs.Looking.{Found, HasPairs, HasRead, Moves, Reads}
+use Rattle.gated_words.proofs.Apart.{apart}
 use Rattle.gated_words.proofs.Spelling.{length-spelled}
-use Rattle.gated_words.proofs.Reading.{no_pairs}
-use Rattle.gated_words.proofs.Tearing.{cut_done, all_found}
+use Rattle.gated_words.proofs.Reading.{no_pairs, nothing_given_up, short_has, whole_has}
 
--- a header over a file that is no longer is all of it
-pub made_whole : (id : FileId) (s t u : DiskState) → length (bytes_of (s.seen id)) ≤ 8 → t.seen id ≡ Some (over (bytes_of (s.seen id)) 0 header) → Looks t u → Only (u.seen id) (u.images id) → Held id [] u
+spelled_none : (f : Form) → spelled f [] ≡ header f
 unfolding spelled
-made_whole id s t u short written looks only =
-    let all : take 0 (bytes_of (s.seen id)) ++ header ++ drop (0 + 8) (bytes_of (s.seen id)) ≡ spelled [] = ap (λ (l : List ℕ). header ++ l) (drop_all 8 (bytes_of (s.seen id)) short) in
-    record { settled = synced id s t u (spelled []) (written ∙ ap Some all) looks only; fit = tt }
+spelled_none f = append-nil (header f)
 
--- files with no more than a header have the same pairs, none
-pub short_same : (d c : Image) → length (bytes_of d) ≤ 8 → length (bytes_of c) ≤ 8 → SamePairs d c
-short_same d c le_d le_c = record { pairs = no_pairs (bytes_of c) le_c ∙ sym (no_pairs (bytes_of d) le_d); opens = λ opens. inl le_c }
+-- few bytes are read as no pairs
+pub reads_short : (f : Form) (bytes : List ℕ) (pairs : List (ℕ × ℕ)) → length bytes ≤ 8 → pairs ≡ [] → Reads f bytes pairs
+reads_short f bytes pairs short none = record {
+  opens = inl short;
+  are = no_pairs f bytes short ∙ sym none;
+  fit = subst AllFit (sym none) tt;
+  splits = λ front. record {
+    rest = [];
+    split = sym (take_all 8 bytes short) ∙ front ∙ sym (spelled_none f) ∙ ap (λ (l : List (ℕ × ℕ)). spelled f l) (sym none) ∙ sym (append-nil (spelled f pairs));
+    given_up = nothing_given_up f;
+  };
+}
 
--- a file with pairs was there when it was read, and is on the disk
-pub found_settled : (id : FileId) (s t : DiskState) (bytes : List ℕ) (pairs : List (ℕ × ℕ)) (end : ℕ) → (s.seen id ≡ None) ⊎ Settled id bytes t → bytes ≡ bytes_of (s.seen id) → FindsPairs bytes pairs end → Settled id bytes t
-found_settled id s t bytes pairs end (inr settled) is f = settled
-found_settled id s t bytes pairs end (inl missing) is f =
-    let none : bytes ≡ [] = is ∙ ap bytes_of missing in
-    absurd (omega (arith, ap length none, ap length f.split, length-append (spelled pairs) f.rest, length-spelled pairs))
+-- the bytes of a file with a header are its pairs and the rest
+read_split : (f : Form) (bytes : List ℕ) (pairs : List (ℕ × ℕ)) (r : HasRead f bytes pairs) → take 8 bytes ≡ header f → bytes ≡ spelled f pairs ++ r.rest
+unfolding spelled
+read_split f bytes pairs r front = sym (take-append-drop 8 bytes) ∙ (λ i. front i ++ r.split i) ∙ simp append_assoc
 
-pub cut_held : (id : FileId) (s : DiskState) (bytes : List ℕ) (pairs : List (ℕ × ℕ)) (end : ℕ) → FindsPairs bytes pairs end → Settled id (take end bytes) s → Held id pairs s
-cut_held id s bytes pairs end f settled = record { settled = subst (λ (l : List ℕ). Settled id l s) (cut_done bytes pairs end f) settled; fit = f.fit }
+-- where the records end, the rest begins
+pub read_end : (f : Form) (bytes : List ℕ) (pairs : List (ℕ × ℕ)) (r : HasRead f bytes pairs) → take 8 bytes ≡ header f → drop (8 + width f * length pairs) bytes ≡ r.rest
+read_end f bytes pairs r front = ap (λ (l : List ℕ). drop (8 + width f * length pairs) l) (read_split f bytes pairs r front) ∙ drop_at (spelled f pairs) r.rest (8 + width f * length pairs) (omega (arith, length-spelled f pairs))
 
-pub found_held : (id : FileId) (s : DiskState) (bytes : List ℕ) (pairs : List (ℕ × ℕ)) (end : ℕ) → FindsPairs bytes pairs end → length bytes ≤ end → Settled id bytes s → Held id pairs s
-found_held id s bytes pairs end f le settled = record { settled = subst (λ (l : List ℕ). Settled id l s) (all_found bytes pairs end f le) settled; fit = f.fit }
+pub read_within : (f : Form) (bytes : List ℕ) (pairs : List (ℕ × ℕ)) → HasRead f bytes pairs → take 8 bytes ≡ header f → 8 + width f * length pairs ≤ length bytes
+read_within f bytes pairs r front = omega (arith, ap length (read_split f bytes pairs r front), length-append (spelled f pairs) r.rest, length-spelled f pairs)
+
+behind_end : (f : Form) (bytes : List ℕ) (pairs : List (ℕ × ℕ)) → pairs_in f bytes ≡ pairs → drop (8 + width f * length pairs) bytes ≡ drop (end_of f bytes) bytes
+behind_end f bytes pairs are = ap (λ (l : List (ℕ × ℕ)). drop (8 + width f * length l) bytes) (sym are)
+
+pub end_at : (f : Form) (pairs : List (ℕ × ℕ)) (w n : ℕ) → w ≡ width f → n ≡ length pairs → 8 + w * n ≡ 8 + width f * length pairs
+end_at f pairs w n wide count = λ i. 8 + wide i * count i
+
+-- what is given up behind the pairs that were read
+pub reads_whole : (f : Form) (bytes : List ℕ) (pairs : List (ℕ × ℕ)) → HasRead f bytes pairs → take 8 bytes ≡ header f → GivenUp f (drop (8 + width f * length pairs) bytes) → Reads f bytes pairs
+reads_whole f bytes pairs r front gives = record {
+  opens = inr (front, subst (GivenUp f) (behind_end f bytes pairs r.are) gives);
+  are = r.are;
+  fit = r.fit;
+  splits = λ same. record { rest = r.rest; split = read_split f bytes pairs r front; given_up = subst (GivenUp f) (read_end f bytes pairs r front) gives };
+}
+
+-- or is not given up
+pub reads_damage : (f : Form) (bytes : List ℕ) (pairs : List (ℕ × ℕ)) (place : ℕ) → 8 < length bytes → HasRead f bytes pairs → take 8 bytes ≡ header f → NoneLeaves f (drop (8 + width f * length pairs) bytes) → place ≡ 8 + width f * length pairs → DamagesAs f place bytes
+reads_damage f bytes pairs place long r front wrong at = (long, inr (front, subst (NoneLeaves f) (behind_end f bytes pairs r.are) wrong, at ∙ ap (λ (l : List (ℕ × ℕ)). 8 + width f * length l) (sym r.are)))
 
 -- a file that can be opened is not damaged
-pub opens_undamaged : (place : ℕ) (bytes : List ℕ) → Opens bytes → Damages place bytes → ⊥
-opens_undamaged place bytes (inl short) (long, why) = omega arith
-opens_undamaged place bytes (inr (front, near)) (long, inl (other, at)) = other front
-opens_undamaged place bytes (inr (front, near)) (long, inr (same, far, at)) = omega arith
+pub opens_undamaged : (f : Form) (place : ℕ) (bytes : List ℕ) → OpensAs f bytes → DamagesAs f place bytes → ⊥
+opens_undamaged f place bytes (inl short) (long, why) = omega arith
+opens_undamaged f place bytes (inr (front, gives)) (long, inl (other, at)) = other front
+opens_undamaged f place bytes (inr (front, gives)) (long, inr (same, inl far, at)) = omega (arith, gives.0)
+opens_undamaged f place bytes (inr (front, gives)) (long, inr (same, inr gated, at)) = elim gives.1 [
+  | inl short ↦ omega (arith, gated.0)
+  | inr shut_gate ↦ shut_gate gated.1
+]
 
-pub damage_one : (a b : ℕ) (bytes : List ℕ) → Damages a bytes → Damages b bytes → a ≡ b
-damage_one a b bytes (long, inl (other, at)) (long_b, inl (other_b, at_b)) = at ∙ sym at_b
-damage_one a b bytes (long, inr (front, far, at)) (long_b, inr (front_b, far_b, at_b)) = at ∙ sym at_b
-damage_one a b bytes (long, inl (other, at)) (long_b, inr (front_b, far_b, at_b)) = absurd (other front_b)
-damage_one a b bytes (long, inr (front, far, at)) (long_b, inl (other_b, at_b)) = absurd (other_b front)
+-- a file of the second form without a header has no pairs
+pub no_header : (bytes : List ℕ) (pairs : List (ℕ × ℕ)) → Reads form.Second bytes pairs → (take 8 bytes ≡ header form.Second → ⊥) → pairs ≡ []
+no_header bytes pairs reads other = elim reads.opens as (λ _. pairs ≡ []) [
+  | inl short ↦ sym reads.are ∙ no_pairs form.Second bytes short
+  | inr whole ↦ absurd (other whole.0)
+]
+
+-- what is left while such a file is made anew
+pub made_has : (bytes : List ℕ) (pairs : List (ℕ × ℕ)) (c : Image) → Reads form.Second bytes pairs → (take 8 bytes ≡ header form.Second → ⊥) → length (bytes_of c) ≤ 8 → HasPairs form.Second pairs (bytes_of c)
+made_has bytes pairs c reads other short = subst (λ (l : List (ℕ × ℕ)). HasPairs form.Second l (bytes_of c)) (sym (no_header bytes pairs reads other)) (short_has form.Second (bytes_of c) short)
+
+pub made_spelled : (bytes : List ℕ) (pairs : List (ℕ × ℕ)) → Reads form.Second bytes pairs → (take 8 bytes ≡ header form.Second → ⊥) → header form.Second ≡ spelled form.Second pairs
+made_spelled bytes pairs reads other = sym (spelled_none form.Second) ∙ ap (λ (l : List (ℕ × ℕ)). spelled form.Second l) (sym (no_header bytes pairs reads other))
+
+-- a file with a header was there
+pub found_there : (id : FileId) (bytes : List ℕ) (s : DiskState) → Found id bytes s → take 8 bytes ≡ header form.Second → Settled id bytes s
+found_there id bytes s (inr settled) front = settled
+found_there id bytes s (inl (missing, none)) front = absurd (omega (arith, ap length (ap (λ (l : List ℕ). take 8 l) (sym none) ∙ front)))
+
+-- what a read gives of both files is one of the images
+pub seen_leaves : (id : FileId) (s : DiskState) → ((f : FileId) → s.images f (s.seen f)) → Leaves id s (seen_files id s)
+seen_leaves id s seen = record { first = seen id; second = seen (second_file id) }
+
+-- the file that counts, and its pairs
+pub record Has (pairs : List (ℕ × ℕ)) (files : Files) : Type 0 where
+  pub opens : Opens files
+  pub are : PairsOf files ≡ pairs
+
+pub first_has : (files : Files) (pairs : List (ℕ × ℕ)) (bytes : List ℕ) → files.first ≡ Some bytes → HasPairs form.First pairs bytes → Has pairs files
+first_has files pairs bytes is has =
+    let P : Image → Type 0 = λ c. OpensAs (form_of c) (counting c files.second) × (pairs_in (form_of c) (counting c files.second) ≡ pairs) in
+    let both : P files.first = subst P (sym is) (has.opens, has.are) in
+    record { opens = both.0; are = both.1 }
+
+pub second_has : (files : Files) (pairs : List (ℕ × ℕ)) → files.first ≡ None → HasPairs form.Second pairs (bytes_of files.second) → Has pairs files
+second_has files pairs is has =
+    let P : Image → Type 0 = λ c. OpensAs (form_of c) (counting c files.second) × (pairs_in (form_of c) (counting c files.second) ≡ pairs) in
+    let both : P files.first = subst P (sym is) (has.opens, has.are) in
+    record { opens = both.0; are = both.1 }
+
+has_same : (old new : Files) (pairs : List (ℕ × ℕ)) → PairsOf old ≡ pairs → Has pairs new → SamePairs old new
+has_same old new pairs is has = record { pairs = has.are ∙ sym is; opens = λ opens. has.opens }
+
+-- while the pairs of the first file go into the second
+pub moves_has : (one : List ℕ) (pairs : List (ℕ × ℕ)) (files : Files) → Reads form.First one pairs → Moves one (spelled form.Second pairs) files → Has pairs files
+moves_has one pairs files reads (inl first) = first_has files pairs one first (record { opens = reads.opens; are = reads.are })
+moves_has one pairs files reads (inr (gone, second)) = second_has files pairs gone (subst (λ (c : Image). HasPairs form.Second pairs (bytes_of c)) (sym second) (whole_has form.Second pairs reads.fit))
+
+pub moves_keep : (id : FileId) (s t : DiskState) (one two : List ℕ) (pairs : List (ℕ × ℕ)) → Leaves id s (seen_files id s) → Settled id one s → Reads form.First one pairs → two ≡ spelled form.Second pairs → EachBoth id (Moves one two) t → KeepsPairs id s t
+moves_keep id s t one two pairs seen settled reads spelt each files left =
+    let before = first_has (seen_files id s) pairs one settled.seen (record { opens = reads.opens; are = reads.are }) in
+    let moved : Moves one (spelled form.Second pairs) files = subst (λ (l : List ℕ). Moves one l files) spelt (each files left) in
+    (seen_files id s, seen, has_same (seen_files id s) files pairs before.are (moves_has one pairs files reads moved))
+
+found_has : (id : FileId) (s n : DiskState) (bytes : List ℕ) → Looks s n → Found id bytes n → bytes ≡ bytes_of (s.seen id)
+found_has id s n bytes looks (inl (missing, none)) = none ∙ ap bytes_of (sym missing ∙ looks.seen id)
+found_has id s n bytes looks (inr settled) = ap bytes_of (sym settled.seen ∙ looks.seen id)
+
+gone_same : (files : Files) → files.first ≡ None → SamePairs (record { first = None; second = files.second }) files
+gone_same files is =
+    let P : Image → Type 0 = λ c. SamePairs (record { first = None; second = files.second }) (record { first = c; second = files.second }) in
+    subst P (sym is) (record { pairs = refl; opens = λ opens. opens })
+
+-- while the second file is made or cut, the first is gone
+pub tidy_keeps : (id : FileId) (s m n t : DiskState) (bytes : List ℕ) (pairs : List (ℕ × ℕ)) → HasSecond id → Leaves id s (seen_files id s) → s.seen id ≡ None → Looks s m → Only None (m.images id) → Looks m n → Found (second_file id) bytes n → Reads form.Second bytes pairs → Elsewhere (second_file id) n t
+    → ((c : Image) → t.images (second_file id) c → n.images (second_file id) c ⊎ HasPairs form.Second pairs (bytes_of c)) → KeepsPairs id s t
+tidy_keeps id s m n t bytes pairs second seen missing removed gone looks found reads others each files left = elim (each files.second left.second) [
+  | inl old ↦ (record { first = None; second = files.second }, record { first = still; second = before_that.images (second_file id) files.second old }, gone_same files none)
+  | inr has ↦ (seen_files id s, seen, has_same (seen_files id s) files pairs before.are (second_has files pairs none has))
+]
+  where
+    before_that : Looks s n
+    before_that = looks_then s m n removed looks
+
+    none : files.first ≡ None
+    none = gone files.first (looks.images id files.first (others.images id (apart id second) files.first left.first))
+
+    still : s.images id None
+    still = subst (λ (c : Image). s.images id c) missing seen.first
+
+    before : Has pairs (seen_files id s)
+    before = second_has (seen_files id s) pairs missing (subst (HasPairs form.Second pairs) (found_has (second_file id) s n bytes before_that found) (record { opens = reads.opens; are = reads.are }))
+
+-- the same, as the code names it
+pub tidy_leaves : (id two : FileId) (s m n t : DiskState) (bytes lent : List ℕ) (pairs given : List (ℕ × ℕ)) → two ≡ second_file id → lent ≡ bytes → given ≡ pairs → HasSecond id → Leaves id s (seen_files id s) → s.seen id ≡ None → Looks s m → Only None (m.images id) → Looks m n → Found two bytes n → Reads form.Second lent pairs → Elsewhere two n t
+    → ((c : Image) → t.images two c → n.images two c ⊎ HasPairs form.Second given (bytes_of c)) → KeepsPairs id s t
+tidy_leaves id two s m n t bytes lent pairs given is same are second seen missing removed gone looks found reads others each =
+    let P : FileId → Type 0 = λ f. Found f bytes n → Elsewhere f n t → ((c : Image) → t.images f c → n.images f c ⊎ HasPairs form.Second given (bytes_of c)) → KeepsPairs id s t in
+    let reads_these : Reads form.Second bytes given = subst (Reads form.Second bytes) (sym are) (subst (λ (l : List ℕ). Reads form.Second l pairs) same reads) in
+    subst P (sym is) (λ found_it others_stay each_is. tidy_keeps id s m n t bytes given second seen missing removed gone looks found_it reads_these others_stay each_is) found others each

@@ -1,53 +1,139 @@
 -- What is read of records, and where reading stops.
-use Rattle.std.proofs.Common.{◌≡◌, ◌≢◌, inl, inr, ℕ, zero, suc, ◌+◌, ◌*◌, ◌≤◌, ◌<◌, ◌^◌, List, [], ◌∷◌, ◌++◌, length, get_or, take, drop, refl, sym, ◌∙◌, ap, subst, arith, append_assoc, length-append, take-append-drop}
-use Rattle.std.proofs.lemmas.List.{append-nil, drop_more, drop_all, get_or_past}
-use Rattle.std.proofs.lemmas.Bool.Decides.{nat_tests}
+use Rattle.std.proofs.Common.{◌≡◌, inl, inr, ℕ, zero, suc, ◌+◌, ◌-◌, ◌*◌, ◌≤◌, ◌<◌, ◌^◌, true, false, List, [], ◌∷◌, ◌++◌, length, get_or, take, drop, refl, sym, ◌∙◌, ap, subst, arith, append_assoc, eq-eqb, length-append, take-append-drop}
+use Rattle.std.proofs.lemmas.List.{append-nil, drop_at, drop_more, drop_all, get_or_past, take_at}
+use Rattle.std.proofs.lemmas.Bool.{cases_eq, cases_lt, and_parts, and_from, eqb-true, false_from_ne_true}
 use Rattle.std.proofs.lemmas.Grind.{common_steps}
+use Rattle.std.specs.Prelude.{IsTrue, ◌==◌}
 use Rattle.std.specs.Int.{w64, from_be_bytes}
-use Rattle.gated_words.specs.Words.{header, gate, words, records, spelled, pair_at, pairs_behind, PairsOf, AllFit, StartsNoRecord, StartsWith}
-use Rattle.gated_words.specs.Looking.{FindsPairs}
-use Rattle.gated_words.proofs.Spelling.{length-words, length-records, records-push, AllFit-push, pair_at-words}
+use Rattle.gated_words.specs.declared.record.Form.{Form}
+use Rattle.gated_words.specs.declared.record.Form.TheVariants as form
+use Rattle.gated_words.specs.Words.{header, width, gate, words, check, xor_of, shut, records, spelled, pair_at, is_checked, is_record, pairs_behind, pairs_in, AllFit, HasGate, HasNoGate, GivenUp, NoneLeaves}
+use Rattle.gated_words.specs.Looking.{HasPairs, StartsWith}
+use Rattle.gated_words.proofs.Spelling.{length-shut, length-header, length-spelled, pair_at-words}
 
-pub behind-drop : (k : ℕ) (bytes : List ℕ) → pairs_behind k bytes ≡ pairs_behind zero (drop k bytes)
-behind-drop zero bytes = refl
-behind-drop (suc k) [] = refl
-behind-drop (suc k) (byte ∷ bytes) = behind-drop k bytes
+pub behind-drop : (f : Form) (k : ℕ) (bytes : List ℕ) → pairs_behind f k bytes ≡ pairs_behind f zero (drop k bytes)
+behind-drop f zero bytes = refl
+behind-drop f (suc k) [] = refl
+behind-drop f (suc k) (byte ∷ bytes) = behind-drop f k bytes
 
--- a record in front
-behind-record : (pair : ℕ × ℕ) (rest : List ℕ) → pair.0 < 2 ^ 64 → pair.1 < 2 ^ 64 → pairs_behind zero (words pair ++ gate ∷ rest) ≡ pair ∷ pairs_behind zero rest
+-- the width of a record as one more
+pub width_more : (f : Form) (byte : ℕ) (bytes : List ℕ) → drop (width f) (byte ∷ bytes) ≡ drop (width f - 1) bytes
+width_more form.First byte bytes = refl
+width_more form.Second byte bytes = refl
+
+-- a record in front is read
+pub behind_step : (f : Form) (bytes : List ℕ) → is_record f bytes ≡ true → pairs_behind f zero bytes ≡ pair_at bytes ∷ pairs_behind f zero (drop (width f) bytes)
+behind_step f [] is = cc
+behind_step f (byte ∷ bytes) is =
+    let rest : pairs_behind f (width f - 1) bytes ≡ pairs_behind f zero (drop (width f) (byte ∷ bytes)) = behind-drop f (width f - 1) bytes ∙ ap (λ (l : List ℕ). pairs_behind f zero l) (sym (width_more f byte bytes)) in
+    let step : pairs_behind f zero (byte ∷ bytes) ≡ pair_at (byte ∷ bytes) ∷ pairs_behind f (width f - 1) bytes = rw is refl in
+    step ∙ ap (λ (l : List (ℕ × ℕ)). pair_at (byte ∷ bytes) ∷ l) rest
+
+-- what is no record ends them
+pub behind_stop : (f : Form) (bytes : List ℕ) → is_record f bytes ≡ false → pairs_behind f zero bytes ≡ []
+behind_stop f [] is = refl
+behind_stop f (byte ∷ bytes) is = rw is refl
+
+-- a record that is spelled is one
+spelled_record : (f : Form) (pair : ℕ × ℕ) (rest : List ℕ) → is_record f (shut f pair ++ gate ∷ rest) ≡ true
 unfolding words
-behind-record pair rest a b = ap (λ (p : ℕ × ℕ). p ∷ pairs_behind zero rest) (pair_at-words pair (gate ∷ rest) a b)
+spelled_record form.First pair rest = refl
+spelled_record form.Second pair rest = eq-eqb (xor_of (words pair)) (xor_of (words pair)) refl
 
-behind-records : (pairs : List (ℕ × ℕ)) (rest : List ℕ) → AllFit pairs → pairs_behind zero (records pairs ++ rest) ≡ pairs ++ pairs_behind zero rest
-behind-records [] rest fit = refl
-behind-records (pair ∷ pairs) rest fit =
-    ap (λ (l : List ℕ). pairs_behind zero l) (append_assoc (words pair) (gate ∷ records pairs) rest)
-    ∙ behind-record pair (records pairs ++ rest) fit.0 fit.1
-    ∙ ap (λ (l : List (ℕ × ℕ)). pair ∷ l) (behind-records pairs rest fit.2)
+behind-record : (f : Form) (pair : ℕ × ℕ) (rest : List ℕ) → pair.0 < 2 ^ 64 → pair.1 < 2 ^ 64 → pairs_behind f zero (shut f pair ++ gate ∷ rest) ≡ pair ∷ pairs_behind f zero rest
+behind-record f pair rest a b =
+    let bytes = shut f pair ++ gate ∷ rest in
+    let read : pair_at bytes ≡ pair = ap (λ (l : List ℕ). pair_at l) (append_assoc (words pair) (check f (words pair)) (gate ∷ rest)) ∙ pair_at-words pair (check f (words pair) ++ gate ∷ rest) a b in
+    let next : drop (width f) bytes ≡ rest = ap (λ (l : List ℕ). drop (width f) l) (sym (append_assoc (shut f pair) (gate ∷ []) rest)) ∙ drop_at (shut f pair ++ gate ∷ []) rest (width f) (omega (arith, length-shut f pair, length-append (shut f pair) (gate ∷ []))) in
+    behind_step f bytes (spelled_record f pair rest) ∙ (λ i. read i ∷ pairs_behind f zero (next i))
 
-pub PairsOf-spelled : (pairs : List (ℕ × ℕ)) (rest : List ℕ) → AllFit pairs → PairsOf (spelled pairs ++ rest) ≡ pairs ++ pairs_behind zero rest
+behind-records : (f : Form) (pairs : List (ℕ × ℕ)) (rest : List ℕ) → AllFit pairs → pairs_behind f zero (records f pairs ++ rest) ≡ pairs ++ pairs_behind f zero rest
+behind-records f [] rest fit = refl
+behind-records f (pair ∷ pairs) rest fit =
+    ap (λ (l : List ℕ). pairs_behind f zero l) (append_assoc (shut f pair) (gate ∷ records f pairs) rest)
+    ∙ behind-record f pair (records f pairs ++ rest) fit.0 fit.1
+    ∙ ap (λ (l : List (ℕ × ℕ)). pair ∷ l) (behind-records f pairs rest fit.2)
+
+pub pairs_in-spelled : (f : Form) (pairs : List (ℕ × ℕ)) (rest : List ℕ) → AllFit pairs → pairs_in f (spelled f pairs ++ rest) ≡ pairs ++ pairs_behind f zero rest
 unfolding spelled
-PairsOf-spelled pairs rest fit = behind-records pairs rest fit
+pairs_in-spelled f pairs rest fit =
+    let behind : drop 8 ((header f ++ records f pairs) ++ rest) ≡ records f pairs ++ rest = ap (λ (l : List ℕ). drop 8 l) (append_assoc (header f) (records f pairs) rest) ∙ drop_at (header f) (records f pairs ++ rest) 8 (omega (arith, length-header f)) in
+    behind-drop f 8 ((header f ++ records f pairs) ++ rest) ∙ ap (λ (l : List ℕ). pairs_behind f zero l) behind ∙ behind-records f pairs rest fit
 
--- another gate ends the records
-pub behind_shut : (rest : List ℕ) → get_or rest 16 0 ≢ gate → pairs_behind zero rest ≡ []
-behind_shut [] shut = refl
-behind_shut (byte ∷ rest) shut = grind (arith, nat_tests)
+-- a byte that is the gate is there
+whole : (f : Form) (bytes : List ℕ) (k : ℕ) → suc k ≡ width f → get_or bytes k 0 ≡ gate → width f ≤ length bytes
+whole f bytes k is here = elim (cases_lt (length bytes) (width f)) [
+  | inl lt ↦ absurd (omega (arith, get_or_past bytes k 0 (omega arith)))
+  | inr ge ↦ ge
+]
 
--- so does one that is not whole
-pub behind_short : (rest : List ℕ) → length rest ≤ 16 → pairs_behind zero rest ≡ []
-behind_short [] le = refl
-behind_short (byte ∷ rest) le = behind_shut (byte ∷ rest) (omega (arith, get_or_past rest 15 0 (omega arith)))
+more : (f : Form) → suc (width f - 1) ≡ width f
+more form.First = refl
+more form.Second = refl
 
-pub behind_none : (rest : List ℕ) → StartsNoRecord rest → pairs_behind zero rest ≡ []
-behind_none rest (inl short) = behind_short rest (omega arith)
-behind_none rest (inr shut) = behind_shut rest shut
+is_record_parts : (f : Form) (bytes : List ℕ) → is_record f bytes ≡ true → HasGate f bytes × IsTrue (is_checked f bytes)
+is_record_parts f bytes is =
+    let both = and_parts (get_or bytes (width f - 1) 0 == gate) (is_checked f bytes) is in
+    let here : get_or bytes (width f - 1) 0 ≡ gate = eqb-true (get_or bytes (width f - 1) 0) gate both.0 in
+    ((whole f bytes (width f - 1) (more f) here, here), both.1)
 
-pub no_pairs : (bytes : List ℕ) → length bytes ≤ 8 → PairsOf bytes ≡ []
-no_pairs bytes le = behind-drop 8 bytes ∙ ap (λ (l : List ℕ). pairs_behind zero l) (drop_all 8 bytes le)
+-- what is not given up is left by no crash
+pub not_given_up : (f : Form) (rest : List ℕ) → (GivenUp f rest → ⊥) → NoneLeaves f rest
+not_given_up f rest never = elim (cases_lt (width f) (length rest)) [
+  | inl long ↦ inl long
+  | inr short ↦ elim (cases_eq (get_or rest (width f - 1) 0) gate) [
+    | inl here ↦ inr (whole f rest (width f - 1) (more f) here, here)
+    | inr other ↦ absurd (never (short, inr other))
+  ]
+]
 
-pub PairsOf-whole : (pairs : List (ℕ × ℕ)) (rest : List ℕ) → AllFit pairs → pairs_behind zero rest ≡ [] → PairsOf (spelled pairs ++ rest) ≡ pairs
-PairsOf-whole pairs rest fit none = PairsOf-spelled pairs rest fit ∙ ap (λ (l : List (ℕ × ℕ)). pairs ++ l) none ∙ append-nil pairs
+pub behind_none : (f : Form) (bytes : List ℕ) → (HasGate f bytes → IsTrue (is_checked f bytes) → ⊥) → pairs_behind f zero bytes ≡ []
+behind_none f bytes never = behind_stop f bytes (false_from_ne_true (is_record f bytes) (λ is. let parts = is_record_parts f bytes is in never parts.0 parts.1))
+
+pub behind_no_gate : (f : Form) (rest : List ℕ) → HasNoGate f rest → pairs_behind f zero rest ≡ []
+behind_no_gate f rest (inl short) = behind_none f rest (λ has checked. omega arith)
+behind_no_gate f rest (inr shut) = behind_none f rest (λ has checked. shut has.1)
+
+pub no_pairs : (f : Form) (bytes : List ℕ) → length bytes ≤ 8 → pairs_in f bytes ≡ []
+no_pairs f bytes le = behind-drop f 8 bytes ∙ ap (λ (l : List ℕ). pairs_behind f zero l) (drop_all 8 bytes le)
+
+pub pairs_in-whole : (f : Form) (pairs : List (ℕ × ℕ)) (rest : List ℕ) → AllFit pairs → pairs_behind f zero rest ≡ [] → pairs_in f (spelled f pairs ++ rest) ≡ pairs
+pairs_in-whole f pairs rest fit none = pairs_in-spelled f pairs rest fit ∙ ap (λ (l : List (ℕ × ℕ)). pairs ++ l) none ∙ append-nil pairs
+
+-- a file with few bytes has no pairs
+pub short_has : (f : Form) (bytes : List ℕ) → length bytes ≤ 8 → HasPairs f [] bytes
+short_has f bytes le = record { opens = inl le; are = no_pairs f bytes le }
+
+spelled_front : (f : Form) (pairs : List (ℕ × ℕ)) (rest : List ℕ) → take 8 (spelled f pairs ++ rest) ≡ header f
+unfolding spelled
+spelled_front f pairs rest = ap (λ (l : List ℕ). take 8 l) (append_assoc (header f) (records f pairs) rest) ∙ take_at (header f) (records f pairs ++ rest) 8 (omega (arith, length-header f))
+
+-- a file of pairs with what is given up behind them has these
+pub given_up_has : (f : Form) (pairs : List (ℕ × ℕ)) (rest : List ℕ) → AllFit pairs → GivenUp f rest → HasPairs f pairs (spelled f pairs ++ rest)
+given_up_has f pairs rest fit gives =
+    let bytes = spelled f pairs ++ rest in
+    let are : pairs_in f bytes ≡ pairs = pairs_in-whole f pairs rest fit (behind_no_gate f rest gives.1) in
+    let end : 8 + width f * length (pairs_in f bytes) ≡ length (spelled f pairs) = ap (λ (l : List (ℕ × ℕ)). 8 + width f * length l) are ∙ sym (length-spelled f pairs) in
+    let behind : drop (8 + width f * length (pairs_in f bytes)) bytes ≡ rest = drop_at (spelled f pairs) rest (8 + width f * length (pairs_in f bytes)) (omega (arith, end)) in
+    record { opens = inr (spelled_front f pairs rest, subst (GivenUp f) (sym behind) gives); are = are }
+
+pub nothing_given_up : (f : Form) → GivenUp f []
+nothing_given_up form.First = (omega arith, inl (omega arith))
+nothing_given_up form.Second = (omega arith, inl (omega arith))
+
+pub whole_has : (f : Form) (pairs : List (ℕ × ℕ)) → AllFit pairs → HasPairs f pairs (spelled f pairs)
+whole_has f pairs fit = subst (HasPairs f pairs) (append-nil (spelled f pairs)) (given_up_has f pairs [] fit (nothing_given_up f))
+
+-- the words, their check and the gate of a record that begins the bytes
+front_words : (f : Form) (bytes : List ℕ) → HasGate f bytes → IsTrue (is_checked f bytes) → bytes ≡ (take 16 bytes ++ check f (take 16 bytes)) ++ gate ∷ drop (width f) bytes
+front_words form.First bytes has checked =
+    let gated : drop 16 bytes ≡ gate ∷ drop 17 bytes = drop_more bytes 16 0 (omega (arith, has.0)) ∙ ap (λ (n : ℕ). n ∷ drop 17 bytes) has.1 in
+    sym (take-append-drop 16 bytes) ∙ ap (λ (l : List ℕ). take 16 bytes ++ l) gated ∙ ap (λ (l : List ℕ). l ++ gate ∷ drop 17 bytes) (sym (append-nil (take 16 bytes)))
+front_words form.Second bytes has checked =
+    let summed : get_or bytes 16 0 ≡ xor_of (take 16 bytes) = eqb-true (get_or bytes 16 0) (xor_of (take 16 bytes)) checked in
+    let gated : drop 17 bytes ≡ gate ∷ drop 18 bytes = drop_more bytes 17 0 (omega (arith, has.0)) ∙ ap (λ (n : ℕ). n ∷ drop 18 bytes) has.1 in
+    let behind : drop 16 bytes ≡ xor_of (take 16 bytes) ∷ gate ∷ drop 18 bytes = drop_more bytes 16 0 (omega (arith, has.0)) ∙ (λ i. summed i ∷ gated i) in
+    sym (take-append-drop 16 bytes) ∙ ap (λ (l : List ℕ). take 16 bytes ++ l) behind ∙ sym (append_assoc (take 16 bytes) (xor_of (take 16 bytes) ∷ []) (gate ∷ drop 18 bytes))
 
 pair_at-front : (bytes : List ℕ) → pair_at bytes ≡ pair_at (take 16 bytes)
 unfolding pair_at
@@ -59,47 +145,17 @@ pair_at-front bytes = λ i. (from_be_bytes w64 (high i), from_be_bytes w64 (low 
     low : take 8 (drop 8 bytes) ≡ take 8 (drop 8 (take 16 bytes))
     low = grind (arith, common_steps)
 
--- a step of reading
-pub behind_step : (bytes : List ℕ) → 17 ≤ length bytes → get_or bytes 16 0 ≡ gate → pairs_behind zero bytes ≡ pair_at (take 16 bytes) ∷ pairs_behind zero (drop 17 bytes)
-behind_step [] ge is = absurd (omega arith)
-behind_step (byte ∷ bytes) ge is =
-    let front : pair_at (byte ∷ bytes) ≡ pair_at (take 16 (byte ∷ bytes)) = pair_at-front (byte ∷ bytes) in
-    let rest = behind-drop 16 bytes in
-    let step : pairs_behind zero (byte ∷ bytes) ≡ pair_at (byte ∷ bytes) ∷ pairs_behind 16 bytes = grind (arith, nat_tests) in
-    step ∙ (λ i. front i ∷ rest i)
+-- a record that begins the bytes is that of the pair that its words give
+pub starts_with : (f : Form) (pair : ℕ × ℕ) (bytes front : List ℕ) → HasGate f bytes → IsTrue (is_checked f bytes) → front ≡ take 16 bytes → pair ≡ pair_at front → words pair ≡ front → AllFit (pair ∷ []) → StartsWith f pair bytes
+starts_with f pair bytes front has checked cut is spelt fit =
+    let same : words pair ≡ take 16 bytes = spelt ∙ cut in
+    let read : pair_at bytes ≡ pair = pair_at-front bytes ∙ ap (λ (l : List ℕ). pair_at l) (sym cut) ∙ sym is in
+    record {
+      pairs = behind_step f bytes (and_from (get_or bytes (width f - 1) 0 == gate) (is_checked f bytes) (eq-eqb (get_or bytes (width f - 1) 0) gate has.1) checked) ∙ ap (λ (p : ℕ × ℕ). p ∷ pairs_behind f zero (drop (width f) bytes)) read;
+      split = front_words f bytes has checked ∙ ap (λ (l : List ℕ). (l ++ check f l) ++ gate ∷ drop (width f) bytes) (sym same);
+      first = fit.0;
+      second = fit.1;
+    }
 
-pub gate_split : (bytes : List ℕ) → 17 ≤ length bytes → get_or bytes 16 0 ≡ gate → bytes ≡ take 16 bytes ++ gate ∷ drop 17 bytes
-gate_split bytes ge is = sym (take-append-drop 16 bytes) ∙ ap (λ (l : List ℕ). take 16 bytes ++ l) (drop_more bytes 16 0 (omega arith) ∙ ap (λ (n : ℕ). n ∷ drop 17 bytes) is)
-
-pub starts_length : (pair : ℕ × ℕ) (bytes : List ℕ) → StartsWith pair bytes → 17 ≤ length bytes
-starts_length pair bytes starts = omega (arith, ap length starts.split, length-append (words pair) (gate ∷ drop 17 bytes), length-words pair)
-
--- what a loop over the records has read of a file
-pub record HasRead (bytes : List ℕ) (pairs : List (ℕ × ℕ)) (rest : List ℕ) : Type 0 where
-  pub split : drop 8 bytes ≡ records pairs ++ rest
-  pub fit : AllFit pairs
-  pub all : pairs ++ pairs_behind zero rest ≡ PairsOf bytes
-
-pub read_none : (bytes rest : List ℕ) → rest ≡ drop 8 bytes → HasRead bytes [] rest
-read_none bytes rest is = record { split = sym is; fit = tt; all = ap (λ (l : List ℕ). pairs_behind zero l) is ∙ sym (behind-drop 8 bytes) }
-
--- one pair more is read
-read_next : (bytes : List ℕ) (pairs : List (ℕ × ℕ)) (pair : ℕ × ℕ) (rest : List ℕ) → StartsWith pair rest → HasRead bytes pairs rest → HasRead bytes (pairs ++ pair ∷ []) (drop 17 rest)
-read_next bytes pairs pair rest starts read = record {
-  split = read.split ∙ ap (λ (l : List ℕ). records pairs ++ l) starts.split ∙ sym (ap (λ (l : List ℕ). l ++ drop 17 rest) (records-push pairs pair) ∙ simp append_assoc);
-  fit = AllFit-push pairs pair read.fit starts.first starts.second;
-  all = append_assoc pairs (pair ∷ []) (pairs_behind zero (drop 17 rest)) ∙ ap (λ (l : List (ℕ × ℕ)). pairs ++ l) (sym starts.pairs) ∙ read.all;
-}
-
-pub read_more : (bytes : List ℕ) (pairs more : List (ℕ × ℕ)) (pair : ℕ × ℕ) (rest next : List ℕ) → more ≡ pairs ++ pair ∷ [] → next ≡ drop 17 rest → StartsWith pair rest → HasRead bytes pairs rest → HasRead bytes more next
-read_more bytes pairs more pair rest next more_is next_is starts read =
-    let P : List (ℕ × ℕ) → Type 0 = λ m. HasRead bytes m (drop 17 rest) in
-    subst (HasRead bytes more) (sym next_is) (subst P (sym more_is) (read_next bytes pairs pair rest starts read))
-
--- what a file with few bytes behind its records is found to be
-pub found_pairs : (bytes : List ℕ) (pairs : List (ℕ × ℕ)) (end : ℕ) → take 8 bytes ≡ header → pairs ≡ PairsOf bytes → (rest : List ℕ) × (drop 8 bytes ≡ records pairs ++ rest) → AllFit pairs → end ≡ 8 + 17 * length pairs → length bytes ≤ end + 17 → FindsPairs bytes pairs end
-unfolding spelled
-found_pairs bytes pairs end front are split fit ends le =
-    let whole : bytes ≡ header ++ records pairs ++ split.0 = sym (take-append-drop 8 bytes) ∙ ap (λ (l : List ℕ). l ++ drop 8 bytes) front ∙ ap (λ (l : List ℕ). header ++ l) split.1 in
-    let size : length bytes ≡ 8 + (17 * length pairs + length split.0) = ap length whole ∙ omega (arith, length-append (records pairs) split.0, length-records pairs) in
-    record { rest = split.0; split = whole; short = omega arith; are = sym are; fit = fit; ends = ends }
+pub starts_length : (f : Form) (pair : ℕ × ℕ) (bytes : List ℕ) → StartsWith f pair bytes → width f ≤ length bytes
+starts_length f pair bytes starts = omega (arith, ap length starts.split, length-append (shut f pair) (gate ∷ drop (width f) bytes), length-shut f pair)

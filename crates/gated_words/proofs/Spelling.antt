@@ -1,29 +1,40 @@
--- How pairs are spelled: lengths, one pair more, and words from bytes.
+-- How pairs are spelled in each form: lengths, one pair more, and words from bytes.
 use Rattle.std.proofs.Common.{◌≡◌, ℕ, ◌+◌, ◌*◌, ◌<◌, ◌^◌, List, [], ◌∷◌, ◌++◌, length, get_or, take, drop, refl, ◌∙◌, ap, arith, append_assoc, length-append, length-drop, take-append-drop}
 use Rattle.std.proofs.lemmas.List.{take_all, get_or_past, get_or-take, get_or-drop, length-take}
 use Rattle.std.proofs.lemmas.Nat.{from_be_bytes-to_be_bytes_8, be_bytes_8}
 use Rattle.std.specs.Int.{w64, to_be_bytes, from_be_bytes}
-use Rattle.gated_words.specs.Words.{header, gate, words, records, spelled, pair_at, AllFit}
+use Rattle.gated_words.specs.declared.record.Form.{Form}
+use Rattle.gated_words.specs.declared.record.Form.TheVariants as form
+use Rattle.gated_words.specs.Words.{header, width, gate, words, shut, records, spelled, pair_at, AllFit}
 
 pub length-words : (pair : ℕ × ℕ) → length (words pair) ≡ 16
 unfolding words
 length-words pair = refl
 
-pub length-records : (pairs : List (ℕ × ℕ)) → length (records pairs) ≡ 17 * length pairs
-length-records [] = refl
-length-records (pair ∷ pairs) = omega (arith, length-append (words pair) (gate ∷ records pairs), length-words pair, length-records pairs)
+pub length-shut : (f : Form) (pair : ℕ × ℕ) → length (shut f pair) + 1 ≡ width f
+unfolding words
+length-shut form.First pair = refl
+length-shut form.Second pair = refl
 
-pub length-spelled : (pairs : List (ℕ × ℕ)) → length (spelled pairs) ≡ 8 + 17 * length pairs
+pub length-records : (f : Form) (pairs : List (ℕ × ℕ)) → length (records f pairs) ≡ width f * length pairs
+length-records f [] = omega arith
+length-records f (pair ∷ pairs) = omega (arith, length-append (shut f pair) (gate ∷ records f pairs), length-shut f pair, length-records f pairs)
+
+pub length-header : (f : Form) → length (header f) ≡ 8
+length-header form.First = refl
+length-header form.Second = refl
+
+pub length-spelled : (f : Form) (pairs : List (ℕ × ℕ)) → length (spelled f pairs) ≡ 8 + width f * length pairs
 unfolding spelled
-length-spelled pairs = omega (arith, length-append header (records pairs), length-records pairs)
+length-spelled f pairs = omega (arith, length-append (header f) (records f pairs), length-header f, length-records f pairs)
 
-pub records-push : (pairs : List (ℕ × ℕ)) (pair : ℕ × ℕ) → records (pairs ++ pair ∷ []) ≡ records pairs ++ words pair ++ gate ∷ []
-records-push [] pair = refl
-records-push (first ∷ pairs) pair = ap (λ (l : List ℕ). words first ++ gate ∷ l) (records-push pairs pair) ∙ simp append_assoc
+pub records-push : (f : Form) (pairs : List (ℕ × ℕ)) (pair : ℕ × ℕ) → records f (pairs ++ pair ∷ []) ≡ records f pairs ++ shut f pair ++ gate ∷ []
+records-push f [] pair = refl
+records-push f (first ∷ pairs) pair = ap (λ (l : List ℕ). shut f first ++ gate ∷ l) (records-push f pairs pair) ∙ simp append_assoc
 
-pub spelled-push : (pairs : List (ℕ × ℕ)) (pair : ℕ × ℕ) → spelled (pairs ++ pair ∷ []) ≡ (spelled pairs ++ words pair) ++ gate ∷ []
+pub spelled-push : (f : Form) (pairs : List (ℕ × ℕ)) (pair : ℕ × ℕ) → spelled f (pairs ++ pair ∷ []) ≡ (spelled f pairs ++ shut f pair) ++ gate ∷ []
 unfolding spelled
-spelled-push pairs pair = ap (λ (l : List ℕ). header ++ l) (records-push pairs pair) ∙ simp append_assoc
+spelled-push f pairs pair = ap (λ (l : List ℕ). header f ++ l) (records-push f pairs pair) ∙ simp append_assoc
 
 pub AllFit-push : (pairs : List (ℕ × ℕ)) (pair : ℕ × ℕ) → AllFit pairs → pair.0 < 2 ^ 64 → pair.1 < 2 ^ 64 → AllFit (pairs ++ pair ∷ [])
 AllFit-push [] pair fit a b = (a, b, tt)

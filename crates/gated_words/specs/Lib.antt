@@ -1,4 +1,5 @@
 pub mod Words
+pub mod Files
 pub mod InHand
 pub mod Backing
 pub mod Looking

@@ -1,25 +1,29 @@
-//! What holds of every file of pairs, named by contracts.
+//! What holds of all files of pairs, named by contracts.
 
 ghost use Rattle.std.specs.Prelude.{◌≡◌, ◌≢◌, ◌++◌, List, ℕ};
 ghost use Rattle.disk_calls.specs.Disk.{Elsewhere, LeftByCrash, Looks};
-ghost use Rattle.gated_words.specs.Words.{AllFit, Damages, Opens, PairsOf, StartsNoRecord, spelled};
+ghost use Rattle.gated_words.specs.declared.record.Form.{Form};
+ghost use Rattle.gated_words.specs.Words.{AllFit, HasNoGate, pairs_in, spelled};
+ghost use Rattle.gated_words.specs.Files.{Damages, Files, Opens, PairsOf, seen_files, second_file};
 ghost use Rattle.gated_words.specs.InHand.{InHand};
-ghost use Rattle.gated_words.specs.Backing.{Backs};
+ghost use Rattle.gated_words.specs.Backing.{Backs, EachHas};
 
 use disk_calls::{Disk, FileId};
 
 /// A file has the pairs that are spelled in it, up to where no whole record with its gate begins. No
-/// file that can be opened is damaged, and damage has one place. It does nothing.
+/// files that can be opened are damaged, and damage has one place. It does nothing.
 pub fn gated_files_are_lawful()
-    ensures spelled { (pairs : List (ℕ × ℕ)) (rest : List ℕ) → AllFit pairs → StartsNoRecord rest → PairsOf (spelled pairs ++ rest) ≡ pairs }
-    ensures never_both { (place : ℕ) (bytes : List ℕ) → Opens bytes → Damages place bytes → ⊥ }
-    ensures one_place { (a b : ℕ) (bytes : List ℕ) → Damages a bytes → Damages b bytes → a ≡ b }
+    ensures spelled { (f : Form) (pairs : List (ℕ × ℕ)) (rest : List ℕ) → AllFit pairs → HasNoGate f rest → pairs_in f (spelled f pairs ++ rest) ≡ pairs }
+    ensures never_both { (place : ℕ) (files : Files) → Opens files → Damages place files → ⊥ }
+    ensures one_place { (a b : ℕ) (files : Files) → Damages a files → Damages b files → a ≡ b }
 {}
 
-/// A file that stands behind pairs in hand still does after a crash, after calls that only look, and
-/// after calls that leave it. It does nothing.
+/// Files that stand behind pairs in hand still do after a crash, after calls that only look, and after
+/// calls that leave them; and where each image had the same pairs, what a crash left has them. It does
+/// nothing.
 pub fn pairs_stay_backed<D: Disk>()
     ensures crash { (hand : InHand) (stream : ℕ) (old new : D) → LeftByCrash stream (D.state old) (D.state new) → Backs hand (D.state old) → Backs hand (D.state new) }
     ensures looks { (hand : InHand) (old new : D) → Looks (D.state old) (D.state new) → Backs hand (D.state old) → Backs hand (D.state new) }
-    ensures elsewhere { (hand : InHand) (id : FileId) (old new : D) → hand.id ≢ id → Elsewhere id (D.state old) (D.state new) → Backs hand (D.state old) → Backs hand (D.state new) }
+    ensures elsewhere { (hand : InHand) (id : FileId) (old new : D) → hand.id ≢ id → second_file hand.id ≢ id → Elsewhere id (D.state old) (D.state new) → Backs hand (D.state old) → Backs hand (D.state new) }
+    ensures has { (id : FileId) (pairs : List (ℕ × ℕ)) (old new : D) → LeftByCrash id.stream (D.state old) (D.state new) → EachHas id pairs (D.state old) → PairsOf (seen_files id (D.state new)) ≡ pairs }
 {}

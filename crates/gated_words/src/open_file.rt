@@ -1,136 +1,182 @@
-//! Opening a file of pairs.
+//! Opening the two files of pairs.
 
-ghost use Rattle.std.specs.Prelude.{◌≡◌, ◌⊎◌, None, IsErrOf, ◌≤◌, [], List, ℕ, length, take, IfOk};
-ghost use Rattle.disk_calls.specs.Disk.{Image, HasCause, Looks, Elsewhere, Settled, bytes_of};
-ghost use Rattle.gated_words.specs.Words.{header, PairsOf, Opens, Damages};
-ghost use Rattle.gated_words.specs.Backing.{EachImage, KeepsPairs, Held, NoneLost};
-ghost use Rattle.gated_words.specs.Looking.{Finds, FindsPairs, StaysWith};
+ghost use Rattle.std.specs.Prelude.{◌≡◌, ◌⊎◌, None, IsErrOf, ◌≤◌, List, ℕ, length, take, IfOk, IsTrue, ◌↔◌};
+ghost use Rattle.disk_calls.specs.Disk.{Image, HasCause, Looks, Elsewhere, Settled, Shorter, bytes_of};
+ghost use Rattle.disk_calls.specs.Frames.{Besides, Gone};
+ghost use Rattle.gated_words.specs.Words.{spelled, DamagesAs, GivenUp};
+ghost use Rattle.gated_words.specs.Files.{HasSecond, second_file, seen_files, PairsOf, Opens, Damages};
+ghost use Rattle.gated_words.specs.Backing.{EachBoth, KeepsPairs, Held};
+ghost use Rattle.gated_words.specs.Looking.{Found, HasPairs, Moves, Reads};
 
 use crate::fault::GateFault;
-use crate::record::{HEADER, has_header, read_pairs};
-use disk_calls::{Disk, DiskDid, DiskSize, FileId, shorten};
+use crate::record::{Form, has_header, is_gated, read_pairs, skip, spell};
+use disk_calls::{Disk, DiskDid, FileId, WholeFile, make_file, read_file, shorten};
 use std::alloc::Global;
 
-/// Opens a file of pairs, or makes one.
+/// The second file of pairs. Where there is none, the file itself.
+pub(crate) fn second_file(id: FileId) -> FileId
+    ensures { result ≡ second_file id }
+{
+    match id.file.second() {
+        Some(file) => FileId {
+            stream: id.stream,
+            file,
+        },
+        None => id,
+    }
+}
+
+/// Opens the files of pairs, or makes the second where neither is there.
 pub(crate) fn open_pairs<D: Disk>(
     alloc: Global,
     disk: &mut D,
     id: FileId,
 ) -> Result<Vec<(u64, u64)>, GateFault>
-    requires { D.tells → NoneLost id (D.state disk.old) }
+    requires { D.tells → HasSecond id }
     ensures images { D.tells → KeepsPairs id (D.state disk.old) (D.state disk.new) }
     ensures held { D.tells → IfOk result (λ pairs. Held id pairs.items (D.state disk.new)) }
-    ensures pairs { D.tells → IfOk result (λ pairs. pairs.items ≡ PairsOf (bytes_of ((D.state disk.old).seen id))) }
-    ensures opens { D.tells → IfOk result (λ pairs. Opens (bytes_of ((D.state disk.old).seen id))) }
-    ensures damaged { D.tells → (place : ℕ) → IsErrOf result (GateFault.Damaged place) → Damages place (bytes_of ((D.state disk.old).seen id)) }
-    ensures kept { D.tells → NoneLost id (D.state disk.new) }
-    ensures others { Elsewhere id (D.state disk.old) (D.state disk.new) }
+    ensures pairs { D.tells → IfOk result (λ pairs. pairs.items ≡ PairsOf (seen_files id (D.state disk.old))) }
+    ensures opens { D.tells → IfOk result (λ pairs. Opens (seen_files id (D.state disk.old))) }
+    ensures damaged { D.tells → (place : ℕ) → IsErrOf result (GateFault.Damaged place) → Damages place (seen_files id (D.state disk.old)) }
+    ensures others { Besides id (second_file id) (D.state disk.old) (D.state disk.new) }
     ensures cause { HasCause (IsErrOf result GateFault.Disk) (D.state disk.old) (D.state disk.new) }
 {
-    let bytes = load(alloc, disk, id)?;
-    match look(alloc, &bytes)? {
-        Found::New => {
-            if let DiskDid::Failed = make(disk, id) {
-                return Err(GateFault::Disk);
-            }
-            Ok(Vec::new(alloc))
-        }
-        Found::Pairs { pairs, end } => {
-            if let DiskDid::Failed = trim(disk, id, &pairs, end, bytes.len() as u64) {
-                return Err(GateFault::Disk);
-            }
-            Ok(pairs)
-        }
+    match read_file(alloc, disk, id)? {
+        WholeFile::Bytes(bytes) => open_first(alloc, disk, id, &bytes),
+        WholeFile::Missing => open_second(alloc, disk, id),
+        WholeFile::Failed => Err(GateFault::Disk),
     }
 }
 
-// Reads a file that is on the disk, or will be once this call is done. One that is missing is empty.
-fn load<D: Disk>(alloc: Global, disk: &mut D, id: FileId) -> Result<Vec<u8>, GateFault>
+// Reads the second file, all of which is on the disk then. One that is missing is empty.
+fn read_second<D: Disk>(alloc: Global, disk: &mut D, id: FileId) -> Result<Vec<u8>, GateFault>
     ensures looks { Looks (D.state disk.old) (D.state disk.new) }
-    ensures bytes { D.tells → IfOk result (λ v. v.items ≡ bytes_of ((D.state disk.old).seen id)) }
-    ensures settled { D.tells → IfOk result (λ v. ((D.state disk.old).seen id ≡ None) ⊎ Settled id v.items (D.state disk.new)) }
+    ensures found { D.tells → IfOk result (λ bytes. Found id bytes.items (D.state disk.new)) }
     ensures cause { HasCause (IsErrOf result GateFault.Disk) (D.state disk.old) (D.state disk.new) }
     ensures undamaged { (place : ℕ) → IsErrOf result (GateFault.Damaged place) → ⊥ }
 {
-    let size = match disk.size(id) {
-        DiskSize::Failed => return Err(GateFault::Disk),
-        DiskSize::Missing => return Ok(Vec::new(alloc)),
-        DiskSize::Size(size) => size,
-    };
-    if let DiskDid::Failed = disk.sync(id) {
-        return Err(GateFault::Disk);
+    match read_file(alloc, disk, id)? {
+        WholeFile::Bytes(bytes) => Ok(bytes),
+        WholeFile::Missing => Ok(Vec::new(alloc)),
+        WholeFile::Failed => Err(GateFault::Disk),
     }
-    let mut bytes = Vec::from_elem(alloc, 0, size as usize)?;
-    if let DiskDid::Failed = disk.read(id, 0, &mut bytes) {
-        return Err(GateFault::Disk);
-    }
-    Ok(bytes)
 }
 
-// What the bytes of a file say.
-#[derive(Drop)]
-enum Found {
-    // The file is to be made.
-    New,
-    // It has pairs, and their records end there.
-    Pairs { pairs: Vec<(u64, u64)>, end: u64 },
-}
-
-fn look(alloc: Global, bytes: &[u8]) -> Result<Found, GateFault>
-    ensures found { IfOk result (Finds bytes.now) }
-    ensures damaged { (place : ℕ) → IsErrOf result (GateFault.Damaged place) → Damages place bytes.now }
+// The pairs of a file of a form.
+fn read(alloc: Global, form: Form, bytes: &[u8]) -> Result<Vec<(u64, u64)>, GateFault>
+    ensures reads { IfOk result (λ pairs. Reads form bytes.now pairs.items) }
+    ensures damaged { (place : ℕ) → IsErrOf result (GateFault.Damaged place) → DamagesAs form place bytes.now }
     ensures not_disk { IsErrOf result GateFault.Disk → ⊥ }
 {
-    if bytes.len() < 8 {
-        return Ok(Found::New);
+    if bytes.len() <= 8 {
+        return Ok(Vec::new(alloc));
     }
-    let whole = has_header(bytes);
-    if whole {
-        return look_behind(alloc, bytes);
+    if !has_header(form, bytes) {
+        return Err(GateFault::Damaged { place: 0 });
     }
-    if bytes.len() == 8 {
-        return Ok(Found::New);
+    let pairs = read_pairs(alloc, form, bytes)?;
+    let end = 8 + form.width() * pairs.len();
+    if !is_given_up(form, skip(bytes, end)) {
+        return Err(GateFault::Damaged { place: end as u64 });
     }
-    Err(GateFault::Damaged { place: 0 })
+    Ok(pairs)
 }
 
-// What a crash may leave behind the last whole record.
-const TORN_MAX: u64 = 17;
-
-fn look_behind(alloc: Global, bytes: &[u8]) -> Result<Found, GateFault>
-    requires size { 8 ≤ length bytes.now }
-    requires header { take 8 bytes.now ≡ header }
-    ensures found { IfOk result (Finds bytes.now) }
-    ensures damaged { (place : ℕ) → IsErrOf result (GateFault.Damaged place) → Damages place bytes.now }
-    ensures not_disk { IsErrOf result GateFault.Disk → ⊥ }
+// Whether bytes behind the records are given up.
+fn is_given_up(form: Form, rest: &[u8]) -> bool
+    ensures { IsTrue result ↔ GivenUp form rest.now }
 {
-    let pairs = read_pairs(alloc, bytes)?;
-    let end = 8 + 17 * pairs.len() as u64;
-    if bytes.len() as u64 > end + TORN_MAX {
-        return Err(GateFault::Damaged { place: end });
-    }
-    Ok(Found::Pairs { pairs, end })
+    rest.len() <= form.width() && !is_gated(form, rest)
 }
 
-// Makes a file of a header in place of one that is no longer.
-fn make<D: Disk>(disk: &mut D, id: FileId) -> DiskDid
-    requires { D.tells → EachImage id (λ c. length (bytes_of c) ≤ 8) (D.state disk.old) }
-    ensures images { D.tells → EachImage id (λ c. length (bytes_of c) ≤ 8) (D.state disk.new) }
-    ensures done { D.tells → result ≡ DiskDid.Done → Held id [] (D.state disk.new) }
+// Opens a first file that is on the disk: its pairs go into the second, and it is removed.
+fn open_first<D: Disk>(
+    alloc: Global,
+    disk: &mut D,
+    id: FileId,
+    bytes: &[u8],
+) -> Result<Vec<(u64, u64)>, GateFault>
+    requires second { D.tells → HasSecond id }
+    requires settled { D.tells → Settled id bytes.now (D.state disk.old) }
+    ensures images { D.tells → KeepsPairs id (D.state disk.old) (D.state disk.new) }
+    ensures held { D.tells → IfOk result (λ pairs. Held id pairs.items (D.state disk.new)) }
+    ensures pairs { D.tells → IfOk result (λ pairs. pairs.items ≡ PairsOf (seen_files id (D.state disk.old))) }
+    ensures opens { D.tells → IfOk result (λ pairs. Opens (seen_files id (D.state disk.old))) }
+    ensures damaged { D.tells → (place : ℕ) → IsErrOf result (GateFault.Damaged place) → Damages place (seen_files id (D.state disk.old)) }
+    ensures others { Besides id (second_file id) (D.state disk.old) (D.state disk.new) }
+    ensures cause { HasCause (IsErrOf result GateFault.Disk) (D.state disk.old) (D.state disk.new) }
+{
+    let pairs = read(alloc, Form::First, bytes)?;
+    let spelled = spell(alloc, &pairs)?;
+    if let DiskDid::Failed = migrate(disk, id, &spelled) {
+        return Err(GateFault::Disk);
+    }
+    Ok(pairs)
+}
+
+// Opens a second file, or makes it. The first, which is missing, is removed again: a call before may have
+// failed to remove it for good.
+fn open_second<D: Disk>(
+    alloc: Global,
+    disk: &mut D,
+    id: FileId,
+) -> Result<Vec<(u64, u64)>, GateFault>
+    requires second { D.tells → HasSecond id }
+    requires missing { D.tells → (D.state disk.old).seen id ≡ None }
+    ensures images { D.tells → KeepsPairs id (D.state disk.old) (D.state disk.new) }
+    ensures held { D.tells → IfOk result (λ pairs. Held id pairs.items (D.state disk.new)) }
+    ensures pairs { D.tells → IfOk result (λ pairs. pairs.items ≡ PairsOf (seen_files id (D.state disk.old))) }
+    ensures opens { D.tells → IfOk result (λ pairs. Opens (seen_files id (D.state disk.old))) }
+    ensures damaged { D.tells → (place : ℕ) → IsErrOf result (GateFault.Damaged place) → Damages place (seen_files id (D.state disk.old)) }
+    ensures others { Besides id (second_file id) (D.state disk.old) (D.state disk.new) }
+    ensures cause { HasCause (IsErrOf result GateFault.Disk) (D.state disk.old) (D.state disk.new) }
+{
+    if let DiskDid::Failed = disk.remove(id) {
+        return Err(GateFault::Disk);
+    }
+    let two = second_file(id);
+    let bytes = read_second(alloc, disk, two)?;
+    let pairs = read(alloc, Form::Second, &bytes)?;
+    if let DiskDid::Failed = tidy(disk, two, &bytes, &pairs) {
+        return Err(GateFault::Disk);
+    }
+    Ok(pairs)
+}
+
+// Writes the second file whole, and removes the first.
+fn migrate<D: Disk>(disk: &mut D, id: FileId, bytes: &[u8]) -> DiskDid
+    requires second { D.tells → HasSecond id }
+    ensures images { D.tells → (one : List ℕ) → Settled id one (D.state disk.old) → EachBoth id (Moves one bytes.now) (D.state disk.new) }
+    ensures done { D.tells → result ≡ DiskDid.Done → Gone id (D.state disk.new) × Settled (second_file id) bytes.now (D.state disk.new) }
+    ensures others { Besides id (second_file id) (D.state disk.old) (D.state disk.new) }
+    ensures cause { HasCause (result ≡ DiskDid.Failed) (D.state disk.old) (D.state disk.new) }
+{
+    if let DiskDid::Failed = make(disk, second_file(id), bytes) {
+        return DiskDid::Failed;
+    }
+    disk.remove(id)
+}
+
+// Leaves the pairs of a file of the second form and nothing else.
+fn tidy<D: Disk>(disk: &mut D, id: FileId, bytes: &[u8], pairs: &[(u64, u64)]) -> DiskDid
+    requires found { D.tells → Found id bytes.now (D.state disk.old) }
+    requires reads { Reads Form.Second bytes.now pairs.now }
+    ensures images { D.tells → (c : Image) → (D.state disk.new).images id c → (D.state disk.old).images id c ⊎ HasPairs Form.Second pairs.now (bytes_of c) }
+    ensures done { D.tells → result ≡ DiskDid.Done → Settled id (spelled Form.Second pairs.now) (D.state disk.new) }
     ensures others { Elsewhere id (D.state disk.old) (D.state disk.new) }
     ensures cause { HasCause (result ≡ DiskDid.Failed) (D.state disk.old) (D.state disk.new) }
 {
-    if let DiskDid::Failed = disk.write_at(id, 0, &HEADER) {
-        return DiskDid::Failed;
+    if !has_header(Form::Second, bytes) {
+        return make(disk, id, &Form::Second.header());
     }
-    disk.sync(id)
+    trim(disk, id, bytes.len() as u64, 8 + 18 * pairs.len() as u64)
 }
 
-// Cuts away what stands behind the pairs.
-fn trim<D: Disk>(disk: &mut D, id: FileId, pairs: &[(u64, u64)], end: u64, size: u64) -> DiskDid
-    requires { D.tells → (bytes : List ℕ) × Settled id bytes (D.state disk.old) × FindsPairs bytes pairs.now end × (size ≡ length bytes) }
-    ensures images { D.tells → EachImage id (StaysWith pairs.now) (D.state disk.new) }
-    ensures done { D.tells → result ≡ DiskDid.Done → Held id pairs.now (D.state disk.new) }
+// Cuts away what stands behind the records of a file, which end there.
+fn trim<D: Disk>(disk: &mut D, id: FileId, size: u64, end: u64) -> DiskDid
+    requires { D.tells → (bytes : List ℕ) × Settled id bytes (D.state disk.old) × (size ≡ length bytes) }
+    ensures images { D.tells → (bytes : List ℕ) → Settled id bytes (D.state disk.old) → (c : Image) → (D.state disk.new).images id c → Shorter bytes end c }
+    ensures done { D.tells → result ≡ DiskDid.Done → (bytes : List ℕ) → Settled id bytes (D.state disk.old) → Settled id (take end bytes) (D.state disk.new) }
     ensures others { Elsewhere id (D.state disk.old) (D.state disk.new) }
     ensures cause { HasCause (result ≡ DiskDid.Failed) (D.state disk.old) (D.state disk.new) }
 {
@@ -138,4 +184,17 @@ fn trim<D: Disk>(disk: &mut D, id: FileId, pairs: &[(u64, u64)], end: u64, size:
         return DiskDid::Done;
     }
     shorten(disk, id, end)
+}
+
+// Makes a file of these bytes and nothing else.
+fn make<D: Disk>(disk: &mut D, id: FileId, bytes: &[u8]) -> DiskDid
+    ensures images { (c : Image) → (D.state disk.new).images id c → (D.state disk.old).images id c ⊎ (length (bytes_of c) ≤ length bytes.now) }
+    ensures done { D.tells → result ≡ DiskDid.Done → Settled id bytes.now (D.state disk.new) }
+    ensures others { Elsewhere id (D.state disk.old) (D.state disk.new) }
+    ensures cause { HasCause (result ≡ DiskDid.Failed) (D.state disk.old) (D.state disk.new) }
+{
+    if let DiskDid::Failed = disk.remove(id) {
+        return DiskDid::Failed;
+    }
+    make_file(disk, id, bytes)
 }
