@@ -1,18 +1,18 @@
 -- What is found when files are opened, and what a crash leaves of them then.
-use Rattle.std.proofs.Common.{◌≡◌, ◌⊎◌, inl, inr, ℕ, ◌+◌, ◌*◌, ◌≤◌, ◌<◌, List, [], ◌++◌, length, take, drop, Some, None, refl, sym, ◌∙◌, ap, subst, arith, append_assoc, length-append, take-append-drop}
+use Rattle.std.proofs.Common.{◌≡◌, ◌≢◌, ◌⊎◌, inl, inr, ℕ, ◌+◌, ◌*◌, ◌≤◌, ◌<◌, false, List, [], ◌∷◌, ◌++◌, length, take, drop, Some, None, refl, sym, ◌∙◌, ap, subst, arith, append_assoc, length-append, take-append-drop}
 use Rattle.std.proofs.lemmas.List.{append-nil, drop_at, take_all}
+use Rattle.std.proofs.lemmas.Bool.{ne_eqb}
 use Rattle.disk_calls.specs.declared.file_id.FileId.{FileId}
 use Rattle.disk_calls.specs.Disk.{DiskState, Image, bytes_of, Settled, Looks, Elsewhere, Only}
-use Rattle.disk_calls.proofs.FrameLemmas.{looks_then}
 use Rattle.gated_words.specs.declared.record.Form.{Form}
 use Rattle.gated_words.specs.declared.record.Form.TheVariants as form
-use Rattle.gated_words.specs.Words.{header, width, spelled, pairs_in, end_of, AllFit, GivenUp, NoneLeaves, OpensAs, DamagesAs}
+use Rattle.gated_words.specs.Words.{header, width, gate, words, xor_of, spelled, is_record, pairs_in, end_of, AllFit, HasGate, GivenUp, NoneLeaves, OpensAs, DamagesAs}
 use Rattle.gated_words.specs.Files.{Files, HasSecond, Leaves, Opens, PairsOf, counting, form_of, seen_files, second_file}
 use Rattle.gated_words.specs.Backing.{EachBoth, KeepsPairs, SamePairs}
 use Rattle.gated_words.specs.Looking.{Found, HasPairs, HasRead, Moves, Reads}
 use Rattle.gated_words.proofs.Apart.{apart}
 use Rattle.gated_words.proofs.Spelling.{length-spelled}
-use Rattle.gated_words.proofs.Reading.{no_pairs, nothing_given_up, short_has, whole_has}
+use Rattle.gated_words.proofs.Reading.{behind_stop, no_pairs, pairs_in-whole, spelled_front, nothing_given_up, short_has, whole_has}
 
 spelled_none : (f : Form) → spelled f [] ≡ header f
 unfolding spelled
@@ -136,29 +136,45 @@ gone_same files is =
     subst P (sym is) (record { pairs = refl; opens = λ opens. opens })
 
 -- while the second file is made or cut, the first is gone
-pub tidy_keeps : (id : FileId) (s m n t : DiskState) (bytes : List ℕ) (pairs : List (ℕ × ℕ)) → HasSecond id → Leaves id s (seen_files id s) → s.seen id ≡ None → Looks s m → Only None (m.images id) → Looks m n → Found (second_file id) bytes n → Reads form.Second bytes pairs → Elsewhere (second_file id) n t
+pub tidy_keeps : (id : FileId) (s n t : DiskState) (bytes : List ℕ) (pairs : List (ℕ × ℕ)) → HasSecond id → Leaves id s (seen_files id s) → s.seen id ≡ None → Looks s n → Only None (n.images id) → Found (second_file id) bytes n → Reads form.Second bytes pairs → Elsewhere (second_file id) n t
     → ((c : Image) → t.images (second_file id) c → n.images (second_file id) c ⊎ HasPairs form.Second pairs (bytes_of c)) → KeepsPairs id s t
-tidy_keeps id s m n t bytes pairs second seen missing removed gone looks found reads others each files left = elim (each files.second left.second) [
-  | inl old ↦ (record { first = None; second = files.second }, record { first = still; second = before_that.images (second_file id) files.second old }, gone_same files none)
+tidy_keeps id s n t bytes pairs second seen missing looks gone found reads others each files left = elim (each files.second left.second) [
+  | inl old ↦ (record { first = None; second = files.second }, record { first = still; second = looks.images (second_file id) files.second old }, gone_same files none)
   | inr has ↦ (seen_files id s, seen, has_same (seen_files id s) files pairs before.are (second_has files pairs none has))
 ]
   where
-    before_that : Looks s n
-    before_that = looks_then s m n removed looks
-
     none : files.first ≡ None
-    none = gone files.first (looks.images id files.first (others.images id (apart id second) files.first left.first))
+    none = gone files.first (others.images id (apart id second) files.first left.first)
 
     still : s.images id None
     still = subst (λ (c : Image). s.images id c) missing seen.first
 
     before : Has pairs (seen_files id s)
-    before = second_has (seen_files id s) pairs missing (subst (HasPairs form.Second pairs) (found_has (second_file id) s n bytes before_that found) (record { opens = reads.opens; are = reads.are }))
+    before = second_has (seen_files id s) pairs missing (subst (HasPairs form.Second pairs) (found_has (second_file id) s n bytes looks found) (record { opens = reads.opens; are = reads.are }))
 
 -- the same, as the code names it
-pub tidy_leaves : (id two : FileId) (s m n t : DiskState) (bytes lent : List ℕ) (pairs given : List (ℕ × ℕ)) → two ≡ second_file id → lent ≡ bytes → given ≡ pairs → HasSecond id → Leaves id s (seen_files id s) → s.seen id ≡ None → Looks s m → Only None (m.images id) → Looks m n → Found two bytes n → Reads form.Second lent pairs → Elsewhere two n t
+pub tidy_leaves : (id two : FileId) (s n t : DiskState) (bytes lent : List ℕ) (pairs given : List (ℕ × ℕ)) → two ≡ second_file id → lent ≡ bytes → given ≡ pairs → HasSecond id → Leaves id s (seen_files id s) → s.seen id ≡ None → Looks s n → Only None (n.images id) → Found (second_file id) bytes n → Reads form.Second lent pairs → Elsewhere two n t
     → ((c : Image) → t.images two c → n.images two c ⊎ HasPairs form.Second given (bytes_of c)) → KeepsPairs id s t
-tidy_leaves id two s m n t bytes lent pairs given is same are second seen missing removed gone looks found reads others each =
-    let P : FileId → Type 0 = λ f. Found f bytes n → Elsewhere f n t → ((c : Image) → t.images f c → n.images f c ⊎ HasPairs form.Second given (bytes_of c)) → KeepsPairs id s t in
+tidy_leaves id two s n t bytes lent pairs given is same are second seen missing looks gone found reads others each =
+    let P : FileId → Type 0 = λ f. Elsewhere f n t → ((c : Image) → t.images f c → n.images f c ⊎ HasPairs form.Second given (bytes_of c)) → KeepsPairs id s t in
     let reads_these : Reads form.Second bytes given = subst (Reads form.Second bytes) (sym are) (subst (λ (l : List ℕ). Reads form.Second l pairs) same reads) in
-    subst P (sym is) (λ found_it others_stay each_is. tidy_keeps id s m n t bytes given second seen missing removed gone looks found_it reads_these others_stay each_is) found others each
+    subst P (sym is) (λ others_stay each_is. tidy_keeps id s n t bytes given second seen missing looks gone found reads_these others_stay each_is) others each
+
+other_check : (pair : ℕ × ℕ) (x : ℕ) (rest : List ℕ) → x ≢ xor_of (words pair) → is_record form.Second (words pair ++ x ∷ gate ∷ rest) ≡ false
+unfolding words
+other_check pair x rest other = ne_eqb x (xor_of (words pair)) other
+
+gate_there : (pair : ℕ × ℕ) (x : ℕ) (rest : List ℕ) → HasGate form.Second (words pair ++ x ∷ gate ∷ rest)
+unfolding words
+gate_there pair x rest = (omega arith, refl)
+
+-- a record with the gate and another xor is damage at its place
+pub xor_damages : (pairs : List (ℕ × ℕ)) (pair : ℕ × ℕ) (x : ℕ) (rest : List ℕ) → AllFit pairs → x ≢ xor_of (words pair) → DamagesAs form.Second (8 + 18 * length pairs) (spelled form.Second pairs ++ (words pair ++ x ∷ gate ∷ rest))
+xor_damages pairs pair x rest fit other =
+    let behind = words pair ++ x ∷ gate ∷ rest in
+    let bytes = spelled form.Second pairs ++ behind in
+    let are : pairs_in form.Second bytes ≡ pairs = pairs_in-whole form.Second pairs behind fit (behind_stop form.Second behind (other_check pair x rest other)) in
+    let place : 8 + 18 * length pairs ≡ end_of form.Second bytes = ap (λ (l : List (ℕ × ℕ)). 8 + 18 * length l) (sym are) in
+    let stands : drop (end_of form.Second bytes) bytes ≡ behind = ap (λ (n : ℕ). drop n bytes) (sym place) ∙ drop_at (spelled form.Second pairs) behind (8 + 18 * length pairs) (omega (arith, length-spelled form.Second pairs)) in
+    let gated = gate_there pair x rest in
+    (omega (arith, gated.0, length-append (spelled form.Second pairs) behind, length-spelled form.Second pairs), inr (spelled_front form.Second pairs behind, inr (subst (HasGate form.Second) (sym stands) gated), place))

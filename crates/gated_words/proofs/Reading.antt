@@ -104,7 +104,7 @@ pairs_in-whole f pairs rest fit none = pairs_in-spelled f pairs rest fit ∙ ap 
 pub short_has : (f : Form) (bytes : List ℕ) → length bytes ≤ 8 → HasPairs f [] bytes
 short_has f bytes le = record { opens = inl le; are = no_pairs f bytes le }
 
-spelled_front : (f : Form) (pairs : List (ℕ × ℕ)) (rest : List ℕ) → take 8 (spelled f pairs ++ rest) ≡ header f
+pub spelled_front : (f : Form) (pairs : List (ℕ × ℕ)) (rest : List ℕ) → take 8 (spelled f pairs ++ rest) ≡ header f
 unfolding spelled
 spelled_front f pairs rest = ap (λ (l : List ℕ). take 8 l) (append_assoc (header f) (records f pairs) rest) ∙ take_at (header f) (records f pairs ++ rest) 8 (omega (arith, length-header f))
 

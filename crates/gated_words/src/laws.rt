@@ -1,19 +1,24 @@
 //! What holds of all files of pairs, named by contracts.
 
-ghost use Rattle.std.specs.Prelude.{◌≡◌, ◌≢◌, ◌++◌, List, ℕ};
+ghost use Rattle.std.specs.Prelude.{◌≡◌, ◌≢◌, ◌+◌, ◌*◌, ◌++◌, ◌∷◌, List, ℕ, length};
 ghost use Rattle.disk_calls.specs.Disk.{Elsewhere, LeftByCrash, Looks};
 ghost use Rattle.gated_words.specs.declared.record.Form.{Form};
-ghost use Rattle.gated_words.specs.Words.{AllFit, HasNoGate, pairs_in, spelled};
+ghost use Rattle.gated_words.specs.declared.record.Form.TheVariants.{Second};
+ghost use Rattle.gated_words.specs.Words.{AllFit, DamagesAs, GivenUp, HasNoGate, OpensAs, gate, pairs_in, spelled, words, xor_of};
 ghost use Rattle.gated_words.specs.Files.{Damages, Files, Opens, PairsOf, seen_files, second_file};
 ghost use Rattle.gated_words.specs.InHand.{InHand};
 ghost use Rattle.gated_words.specs.Backing.{Backs, EachHas};
 
 use disk_calls::{Disk, FileId};
 
-/// A file has the pairs that are spelled in it, up to where no whole record with its gate begins. No
-/// files that can be opened are damaged, and damage has one place. It does nothing.
+/// A file has the pairs that are spelled in it, up to where no whole record with its gate begins, and can
+/// be opened where what stands there is given up. A record of the second form with its gate and another
+/// xor is damage at its place. No files that can be opened are damaged, and damage has one place. It does
+/// nothing.
 pub fn gated_files_are_lawful()
     ensures spelled { (f : Form) (pairs : List (ℕ × ℕ)) (rest : List ℕ) → AllFit pairs → HasNoGate f rest → pairs_in f (spelled f pairs ++ rest) ≡ pairs }
+    ensures given_up { (f : Form) (pairs : List (ℕ × ℕ)) (rest : List ℕ) → AllFit pairs → GivenUp f rest → OpensAs f (spelled f pairs ++ rest) }
+    ensures another_xor { (pairs : List (ℕ × ℕ)) (pair : ℕ × ℕ) (x : ℕ) (rest : List ℕ) → AllFit pairs → x ≢ xor_of (words pair) → DamagesAs Second (8 + 18 * length pairs) (spelled Second pairs ++ (words pair ++ x ∷ gate ∷ rest)) }
     ensures never_both { (place : ℕ) (files : Files) → Opens files → Damages place files → ⊥ }
     ensures one_place { (a b : ℕ) (files : Files) → Damages a files → Damages b files → a ≡ b }
 {}

@@ -1,7 +1,7 @@
 //! Opening the two files of pairs.
 
 ghost use Rattle.std.specs.Prelude.{◌≡◌, ◌⊎◌, None, IsErrOf, ◌≤◌, List, ℕ, length, take, IfOk, IsTrue, ◌↔◌};
-ghost use Rattle.disk_calls.specs.Disk.{Image, HasCause, Looks, Elsewhere, Settled, Shorter, bytes_of};
+ghost use Rattle.disk_calls.specs.Disk.{Image, HasCause, Looks, Elsewhere, Only, Settled, Shorter, bytes_of};
 ghost use Rattle.disk_calls.specs.Frames.{Besides, Gone};
 ghost use Rattle.gated_words.specs.Words.{spelled, DamagesAs, GivenUp};
 ghost use Rattle.gated_words.specs.Files.{HasSecond, second_file, seen_files, PairsOf, Opens, Damages};
@@ -48,19 +48,29 @@ pub(crate) fn open_pairs<D: Disk>(
     }
 }
 
-// Reads the second file, all of which is on the disk then. One that is missing is empty.
+// Reads the second file where the first is missing; all of it is on the disk then, and one that is missing
+// is empty. The first is removed again: a call before may have failed to remove it for good.
 fn read_second<D: Disk>(alloc: Global, disk: &mut D, id: FileId) -> Result<Vec<u8>, GateFault>
-    ensures looks { Looks (D.state disk.old) (D.state disk.new) }
-    ensures found { D.tells → IfOk result (λ bytes. Found id bytes.items (D.state disk.new)) }
+    requires { D.tells → (D.state disk.old).seen id ≡ None }
+    ensures looks { D.tells → Looks (D.state disk.old) (D.state disk.new) }
+    ensures gone { IfOk result (λ bytes. Only None ((D.state disk.new).images id)) }
+    ensures found { D.tells → IfOk result (λ bytes. Found (second_file id) bytes.items (D.state disk.new)) }
+    ensures others { Elsewhere id (D.state disk.old) (D.state disk.new) }
     ensures cause { HasCause (IsErrOf result GateFault.Disk) (D.state disk.old) (D.state disk.new) }
     ensures undamaged { (place : ℕ) → IsErrOf result (GateFault.Damaged place) → ⊥ }
 {
-    match read_file(alloc, disk, id)? {
+    if let DiskDid::Failed = disk.remove(id) {
+        return Err(GateFault::Disk);
+    }
+    match read_file(alloc, disk, second_file(id))? {
         WholeFile::Bytes(bytes) => Ok(bytes),
         WholeFile::Missing => Ok(Vec::new(alloc)),
         WholeFile::Failed => Err(GateFault::Disk),
     }
 }
+
+// The bytes of a header.
+const HEADER_SIZE: usize = 8;
 
 // The pairs of a file of a form.
 fn read(alloc: Global, form: Form, bytes: &[u8]) -> Result<Vec<(u64, u64)>, GateFault>
@@ -68,7 +78,7 @@ fn read(alloc: Global, form: Form, bytes: &[u8]) -> Result<Vec<(u64, u64)>, Gate
     ensures damaged { (place : ℕ) → IsErrOf result (GateFault.Damaged place) → DamagesAs form place bytes.now }
     ensures not_disk { IsErrOf result GateFault.Disk → ⊥ }
 {
-    if bytes.len() <= 8 {
+    if bytes.len() <= HEADER_SIZE {
         return Ok(Vec::new(alloc));
     }
     if !has_header(form, bytes) {
@@ -114,8 +124,7 @@ fn open_first<D: Disk>(
     Ok(pairs)
 }
 
-// Opens a second file, or makes it. The first, which is missing, is removed again: a call before may have
-// failed to remove it for good.
+// Opens a second file without a first, or makes it.
 fn open_second<D: Disk>(
     alloc: Global,
     disk: &mut D,
@@ -131,13 +140,9 @@ fn open_second<D: Disk>(
     ensures others { Besides id (second_file id) (D.state disk.old) (D.state disk.new) }
     ensures cause { HasCause (IsErrOf result GateFault.Disk) (D.state disk.old) (D.state disk.new) }
 {
-    if let DiskDid::Failed = disk.remove(id) {
-        return Err(GateFault::Disk);
-    }
-    let two = second_file(id);
-    let bytes = read_second(alloc, disk, two)?;
+    let bytes = read_second(alloc, disk, id)?;
     let pairs = read(alloc, Form::Second, &bytes)?;
-    if let DiskDid::Failed = tidy(disk, two, &bytes, &pairs) {
+    if let DiskDid::Failed = tidy(disk, second_file(id), &bytes, &pairs) {
         return Err(GateFault::Disk);
     }
     Ok(pairs)
@@ -158,43 +163,43 @@ fn migrate<D: Disk>(disk: &mut D, id: FileId, bytes: &[u8]) -> DiskDid
 }
 
 // Leaves the pairs of a file of the second form and nothing else.
-fn tidy<D: Disk>(disk: &mut D, id: FileId, bytes: &[u8], pairs: &[(u64, u64)]) -> DiskDid
-    requires found { D.tells → Found id bytes.now (D.state disk.old) }
+fn tidy<D: Disk>(disk: &mut D, two: FileId, bytes: &[u8], pairs: &[(u64, u64)]) -> DiskDid
+    requires found { D.tells → Found two bytes.now (D.state disk.old) }
     requires reads { Reads Form.Second bytes.now pairs.now }
-    ensures images { D.tells → (c : Image) → (D.state disk.new).images id c → (D.state disk.old).images id c ⊎ HasPairs Form.Second pairs.now (bytes_of c) }
-    ensures done { D.tells → result ≡ DiskDid.Done → Settled id (spelled Form.Second pairs.now) (D.state disk.new) }
-    ensures others { Elsewhere id (D.state disk.old) (D.state disk.new) }
+    ensures images { D.tells → (c : Image) → (D.state disk.new).images two c → (D.state disk.old).images two c ⊎ HasPairs Form.Second pairs.now (bytes_of c) }
+    ensures done { D.tells → result ≡ DiskDid.Done → Settled two (spelled Form.Second pairs.now) (D.state disk.new) }
+    ensures others { Elsewhere two (D.state disk.old) (D.state disk.new) }
     ensures cause { HasCause (result ≡ DiskDid.Failed) (D.state disk.old) (D.state disk.new) }
 {
     if !has_header(Form::Second, bytes) {
-        return make(disk, id, &Form::Second.header());
+        return make(disk, two, &Form::Second.header());
     }
-    trim(disk, id, bytes.len() as u64, 8 + 18 * pairs.len() as u64)
+    trim(disk, two, bytes.len() as u64, 8 + 18 * pairs.len() as u64)
 }
 
 // Cuts away what stands behind the records of a file, which end there.
-fn trim<D: Disk>(disk: &mut D, id: FileId, size: u64, end: u64) -> DiskDid
-    requires { D.tells → (bytes : List ℕ) × Settled id bytes (D.state disk.old) × (size ≡ length bytes) }
-    ensures images { D.tells → (bytes : List ℕ) → Settled id bytes (D.state disk.old) → (c : Image) → (D.state disk.new).images id c → Shorter bytes end c }
-    ensures done { D.tells → result ≡ DiskDid.Done → (bytes : List ℕ) → Settled id bytes (D.state disk.old) → Settled id (take end bytes) (D.state disk.new) }
-    ensures others { Elsewhere id (D.state disk.old) (D.state disk.new) }
+fn trim<D: Disk>(disk: &mut D, two: FileId, size: u64, end: u64) -> DiskDid
+    requires { D.tells → (bytes : List ℕ) × Settled two bytes (D.state disk.old) × (size ≡ length bytes) }
+    ensures images { D.tells → (bytes : List ℕ) → Settled two bytes (D.state disk.old) → (c : Image) → (D.state disk.new).images two c → Shorter bytes end c }
+    ensures done { D.tells → result ≡ DiskDid.Done → (bytes : List ℕ) → Settled two bytes (D.state disk.old) → Settled two (take end bytes) (D.state disk.new) }
+    ensures others { Elsewhere two (D.state disk.old) (D.state disk.new) }
     ensures cause { HasCause (result ≡ DiskDid.Failed) (D.state disk.old) (D.state disk.new) }
 {
     if size <= end {
         return DiskDid::Done;
     }
-    shorten(disk, id, end)
+    shorten(disk, two, end)
 }
 
 // Makes a file of these bytes and nothing else.
-fn make<D: Disk>(disk: &mut D, id: FileId, bytes: &[u8]) -> DiskDid
-    ensures images { (c : Image) → (D.state disk.new).images id c → (D.state disk.old).images id c ⊎ (length (bytes_of c) ≤ length bytes.now) }
-    ensures done { D.tells → result ≡ DiskDid.Done → Settled id bytes.now (D.state disk.new) }
-    ensures others { Elsewhere id (D.state disk.old) (D.state disk.new) }
+fn make<D: Disk>(disk: &mut D, two: FileId, bytes: &[u8]) -> DiskDid
+    ensures images { (c : Image) → (D.state disk.new).images two c → (D.state disk.old).images two c ⊎ (length (bytes_of c) ≤ length bytes.now) }
+    ensures done { D.tells → result ≡ DiskDid.Done → Settled two bytes.now (D.state disk.new) }
+    ensures others { Elsewhere two (D.state disk.old) (D.state disk.new) }
     ensures cause { HasCause (result ≡ DiskDid.Failed) (D.state disk.old) (D.state disk.new) }
 {
-    if let DiskDid::Failed = disk.remove(id) {
+    if let DiskDid::Failed = disk.remove(two) {
         return DiskDid::Failed;
     }
-    make_file(disk, id, bytes)
+    make_file(disk, two, bytes)
 }

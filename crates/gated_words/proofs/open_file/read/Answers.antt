@@ -5,8 +5,8 @@ use Rattle.gated_words.proofs.Reading.{not_given_up}
 use Rattle.gated_words.proofs.Opening.{end_at, read_within, reads_damage, reads_short, reads_whole}
 use Rattle.gated_words.proofs.open_file.read.Goals as goal
 
-pub returns-then-bytes-le8-clause-reads : goal.returns-then-bytes-le8-clause-reads
-returns-then-bytes-le8-clause-reads c = reads_short _ _ _ (omega arith) c.new.ensures.items
+pub returns-then-bytes-le-HEADER_SIZE-clause-reads : goal.returns-then-bytes-le-HEADER_SIZE-clause-reads
+returns-then-bytes-le-HEADER_SIZE-clause-reads c = reads_short _ _ _ (omega arith) c.new.ensures.items
 
 pub skip-requires : goal.skip-requires
 skip-requires c =

@@ -18,7 +18,7 @@ returns-then-not-has_header-clause-images g c = λ told d left.
 pub returns-then-not-has_header-clause-done : goal.returns-then-not-has_header-clause-done
 returns-then-not-has_header-clause-done g c = λ told did.
     let other : take 8 c.args.bytes.now ≡ header form.Second → ⊥ = λ front. false≢true (sym c.if-not-has_header.true ∙ c.has_header.ensures.1 front) in
-    subst (λ (l : List ℕ). Settled c.args.id l (g.D.Disk.state c.make.new.disk)) (c.header.ensures ∙ made_spelled _ _ c.requires.reads other) (c.make.ensures.done told did)
+    subst (λ (l : List ℕ). Settled c.args.two l (g.D.Disk.state c.make.new.disk)) (c.header.ensures ∙ made_spelled _ _ c.requires.reads other) (c.make.ensures.done told did)
 
 pub trim-requires : goal.trim-requires
 trim-requires g c = λ told. (c.args.bytes.now, found_there _ _ _ (c.requires.found told) (c.has_header.ensures.0 c.if-not-has_header.false), refl)
@@ -33,4 +33,4 @@ pub returns-clause-done : goal.returns-clause-done
 returns-clause-done g c = λ told did.
     let front = c.has_header.ensures.0 c.if-not-has_header.false in
     let settled = found_there _ _ _ (c.requires.found told) front in
-    subst (λ (l : List ℕ). Settled c.args.id l (g.D.Disk.state c.trim.new.disk)) (cut_done c.args.bytes.now c.args.pairs.now _ (c.requires.reads.splits front) refl) (c.trim.ensures.done told did _ settled)
+    subst (λ (l : List ℕ). Settled c.args.two l (g.D.Disk.state c.trim.new.disk)) (cut_done c.args.bytes.now c.args.pairs.now _ (c.requires.reads.splits front) refl) (c.trim.ensures.done told did _ settled)
