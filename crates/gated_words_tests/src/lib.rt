@@ -1,8 +1,10 @@
-//! A caller of gated words that is proved from their contracts alone, and tests of what no clause says.
+//! Callers of gated words that are proved from their contracts alone, and tests of what no clause says.
 #![tactic(auto)]
 
 mod crashed;
 #[cfg(test)]
 mod over_memory;
+#[cfg(test)]
+mod stopped;
 
-pub use crashed::{crash, empty_disk, fail_call, put_crashed, write};
+pub use crashed::{fail_call, open_crashed, put_crashed};
