@@ -1,0 +1,5 @@
+//! Tests of `chunk_crc`: sums that zlib gives.
+#![tactic(auto)]
+
+#[cfg(test)]
+mod known;
