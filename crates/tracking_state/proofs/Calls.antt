@@ -71,18 +71,19 @@ sequences_right len t is = All-from_recursion IsSnapshot (map sequence_entry t.s
 pub offsets_right : (len : ℕ) (t : Tracked) → IsTracked len t → All IsSnapshot (map offset_entry t.offsets)
 offsets_right len t is = All-from_recursion IsSnapshot (map offset_entry t.offsets) (parts t is.1).1
 
-pub written_is : (sequences : List (List ℕ × Latest)) (offsets : List (List ℕ × ℕ)) (t : Tracked) (log : List Chunk) (start one body : List ℕ) → tracked sequences offsets ≡ t → t ≡ tracked_of log → start ≡ []
-    → one ≡ start ++ flat_map snapshot_bytes (map sequence_entry sequences) → body ≡ one ++ flat_map snapshot_bytes (map offset_entry offsets) → body ≡ snapshot_body log
-written_is sequences offsets t log start one body view tracks none first second =
+pub body_of_log : (t : Tracked) (log : List Chunk) → t ≡ tracked_of log → body_of t ≡ snapshot_body log
+body_of_log t log tracks = ap body_of tracks ∙ ap (flat_map snapshot_bytes) (listed_of_log log)
+
+pub written_is : (sequences : List (List ℕ × Latest)) (offsets : List (List ℕ × ℕ)) (t : Tracked) (start one body : List ℕ) → tracked sequences offsets ≡ t → start ≡ []
+    → one ≡ start ++ flat_map snapshot_bytes (map sequence_entry sequences) → body ≡ one ++ flat_map snapshot_bytes (map offset_entry offsets) → body ≡ body_of t
+written_is sequences offsets t start one body view none first second =
     let a = flat_map snapshot_bytes (map sequence_entry sequences) in
     let b = flat_map snapshot_bytes (map offset_entry offsets) in
-    let whole : body ≡ body_of (tracked sequences offsets) =
-    second ∙ ap (λ (l : List ℕ). l ++ b) (first ∙ ap (λ (l : List ℕ). l ++ a) none) ∙ sym (flat_map-append snapshot_bytes (map sequence_entry sequences) (map offset_entry offsets)) in
-    whole ∙ ap body_of (view ∙ tracks) ∙ ap (flat_map snapshot_bytes) (listed_of_log log)
+    second ∙ ap (λ (l : List ℕ). l ++ b) (first ∙ ap (λ (l : List ℕ). l ++ a) none) ∙ sym (flat_map-append snapshot_bytes (map sequence_entry sequences) (map offset_entry offsets)) ∙ ap body_of view
 
 pub len_is : (len : ℕ) (sequences : List (List ℕ × Latest)) (offsets : List (List ℕ × ℕ)) (t : Tracked) (log : List Chunk) → IsTracked len (tracked sequences offsets) → tracked sequences offsets ≡ t → t ≡ tracked_of log
     → len ≡ length (snapshot_body log)
-len_is len sequences offsets t log is view tracks = is.0 ∙ ap length (ap body_of (view ∙ tracks) ∙ ap (flat_map snapshot_bytes) (listed_of_log log))
+len_is len sequences offsets t log is view tracks = is.0 ∙ ap length (ap body_of view ∙ body_of_log t log tracks)
 
 body_is : (c : Chunk) (r : EntryShown) (body : List ℕ) (offset : ℕ) → c.entries ≡ Simple body ∷ [] → IsSomeAnd (slice_get c.entries 0) (λ entry. r ≡ shown offset entry) → r.body ≡ body
 body_is c r body offset one here = ap (λ (s : EntryShown). s.body) (subst (λ (entries : List Entry). IsSomeAnd (slice_get entries 0) (λ entry. r ≡ shown offset entry)) one here)

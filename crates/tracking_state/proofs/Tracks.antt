@@ -45,7 +45,7 @@ found_id name id (c ∷ cs) =
     let more = found_id name id cs in
     elim (has_id name id c) as (λ b. is_some (cond b (Some c) (find (has_id name id) cs)) ≡ (b || list_any is (ids_of name cs))) [ true ↦ refl | false ↦ more ] ∙ sym joined
 
-or_right : (a b : Bool) → b ≡ true → (a || b) ≡ true
+pub or_right : (a b : Bool) → b ≡ true → (a || b) ≡ true
 or_right true b h = refl
 or_right false b h = h
 

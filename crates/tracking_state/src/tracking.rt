@@ -2,6 +2,7 @@
 
 ghost use Rattle.std.specs.Prelude.{◌≡◌, ◌<◌, ◌≤◌, ◌+◌, ◌++◌, ◌∷◌, [], List, length, fold, flat_map, take, map, slice_get, IfOk, OnOk, OnErr, Some, None, MatchOption, IfSome, IsTrue, ◌^◌, ◌↔◌};
 ghost use Rattle.std.specs.List.{All, HoldsAt};
+ghost use Rattle.chunk_format.specs.declared.entry.Entry.TheVariants.{Simple};
 ghost use Rattle.chunk_format.specs.declared.chunk.Chunk.{Chunk};
 ghost use Rattle.chunk_format.specs.declared.chunk.ChunkKind.TheVariants.{Snapshot};
 ghost use Rattle.chunk_format.specs.Tags.{SnapshotEntry, snapshot_bytes, IsSnapshot, SpellsSnapshot};
@@ -139,7 +140,8 @@ impl Tracking {
 
     /// The bytes of what a snapshot of the log lists.
     fn snapshot_body(&self, alloc: Global) -> Result<Octets, AllocError>
-        ensures { (log : List Chunk) → self.now ≡ tracked_of log → IfOk result (λ body. body ≡ snapshot_body log) }
+        ensures body { IfOk result (λ body. body ≡ body_of self.now) }
+        ensures log { (log : List Chunk) → self.now ≡ tracked_of log → IfOk result (λ body. body ≡ snapshot_body log) }
     {
         let mut body = Octets::new(alloc);
         put_references(&mut body, &self.references)?;
@@ -150,7 +152,8 @@ impl Tracking {
     /// The entry of a snapshot of the log. It fails for want of memory alone.
     pub fn snapshot_entry(&self, alloc: Global) -> Result<Entry, AllocError>
         requires { length (body_of self.now) < 2 ^ 31 }
-        ensures { (log : List Chunk) → self.now ≡ tracked_of log → IfOk result (λ entry. entry ≡ snapshot_entry_of log) }
+        ensures entry { IfOk result (λ entry. entry ≡ Simple (body_of self.now)) }
+        ensures log { (log : List Chunk) → self.now ≡ tracked_of log → IfOk result (λ entry. entry ≡ snapshot_entry_of log) }
     {
         let body = self.snapshot_body(alloc)?;
         Ok(Entry::Simple(body))
