@@ -1,31 +1,34 @@
 use frame_wire::Limits;
 use std::process::Abort;
 
-/// Members, and the streams and bytes of a log that they have.
-const MEMBERS: [(u8, Option<(u32, u64)>); 9] = [
-    (0, None),
-    (1, Some((8, 134_217_728))),
-    (2, None),
-    (3, Some((8, 134_217_728))),
-    (4, None),
-    (5, Some((8, 67_108_864))),
-    (6, None),
-    (7, Some((6, 67_108_864))),
-    (8, None),
+/// Members, and the streams and bytes of a log that they have; no streams for a wrong number of members.
+const MEMBERS: [(u8, u32, u64); 9] = [
+    (0, 0, 0),
+    (1, 8, 134_217_728),
+    (2, 0, 0),
+    (3, 8, 134_217_728),
+    (4, 0, 0),
+    (5, 8, 67_108_864),
+    (6, 0, 0),
+    (7, 6, 67_108_864),
+    (8, 0, 0),
 ];
+
+fn are_given<R: Abort>(rt: &R, members: u8, streams: u32, log_bytes: u64) {
+    match Limits::for_members(members) {
+        Some(limits) => {
+            assert_eq!(rt; limits.streams, streams, "{members} members");
+            assert_eq!(rt; limits.log_bytes, log_bytes, "{members} members");
+            assert!(rt; limits.in_bounds(), "{members} members");
+        }
+        None => assert_eq!(rt; streams, 0, "{members} members"),
+    }
+}
 
 #[test]
 fn limits_follow_the_number_of_members(rt: HostRuntime) {
-    for (members, wanted) in MEMBERS {
-        let given = Limits::for_members(members);
-        assert_eq!(rt;
-            given.map(|limits| (limits.streams, limits.log_bytes)),
-            wanted,
-            "{members} members"
-        );
-        if let Some(limits) = given {
-            assert!(rt; limits.in_bounds(), "{members} members");
-        }
+    for (members, streams, log_bytes) in MEMBERS {
+        are_given(&rt, members, streams, log_bytes);
     }
     assert_eq!(rt; Limits::standard().streams, 16);
 }
@@ -36,55 +39,17 @@ fn are_refused<R: Abort>(rt: &R, limits: Limits) {
 
 #[test]
 fn limits_beyond_their_bounds_are_refused(rt: HostRuntime) {
-    let standard = Limits::standard();
-    assert!(rt; standard.in_bounds());
-    are_refused(
-        &rt,
-        Limits {
-            members: 4,
-            ..standard
-        },
-    );
-    are_refused(
-        &rt,
-        Limits {
-            streams: 17,
-            ..standard
-        },
-    );
-    are_refused(
-        &rt,
-        Limits {
-            log_bytes: 0,
-            ..standard
-        },
-    );
-    are_refused(
-        &rt,
-        Limits {
-            log_bytes: 67_108_865,
-            ..standard
-        },
-    );
-    are_refused(
-        &rt,
-        Limits {
-            queue: 4_097,
-            ..standard
-        },
-    );
-    are_refused(
-        &rt,
-        Limits {
-            references: 1_025,
-            ..standard
-        },
-    );
-    are_refused(
-        &rt,
-        Limits {
-            consumers: 0,
-            ..standard
-        },
-    );
+    let mut limits = Limits::standard();
+    assert!(rt; limits.in_bounds());
+    limits.members = 4;
+    are_refused(&rt, limits);
+    limits = Limits::standard();
+    limits.streams = 17;
+    are_refused(&rt, limits);
+    limits = Limits::standard();
+    limits.log_bytes = 67_108_865;
+    are_refused(&rt, limits);
+    limits = Limits::standard();
+    limits.queue = 0;
+    are_refused(&rt, limits);
 }
