@@ -5,6 +5,8 @@
 mod over_folder;
 #[cfg(test)]
 mod over_memory;
+#[cfg(test)]
+mod pieces;
 mod two_files;
 
 pub use two_files::write_two;
