@@ -1,5 +1,5 @@
 -- The table of the data commands is lawful.
-use Rattle.std.proofs.Common.{◌≡◌, ℕ, ◌^◌, ◌<◌, List, length, Some, refl, sym, arith, inl, inr}
+use Rattle.std.proofs.Common.{◌≡◌, ℕ, ◌^◌, ◌<◌, ◌⊎◌, List, length, Option, Some, refl, sym, subst, ◌∙◌, arith, inl, inr}
 use Rattle.std.specs.List.{flat_map}
 use Rattle.std.proofs.lemmas.List.{length-append}
 use Rattle.frame_wire.specs.Fields.{count_bytes}
@@ -15,15 +15,15 @@ use Rattle.chunk_format.specs.ChunkFields.{entry_field, header_field}
 use Rattle.chunk_format.proofs.FieldLaws.{entry_lawful, header_lawful}
 use Rattle.command_fields.specs.declared.fault.DecodeFault.TheVariants.{Short}
 use Rattle.command_fields.specs.Properties.{property_field}
-use Rattle.command_fields.specs.Tables.{LawfulEnd, LawfulTable, u64, list_of, last}
+use Rattle.command_fields.specs.Tables.{LawfulEnd, LawfulTable, in_version, u64, list_of, last}
 use Rattle.command_fields.proofs.OffsetLaws.{spec_lawful, property_lawful}
-use Rattle.command_fields.proofs.TableLaws.{last_lawful, then_ends, absent_ends, named_one, u8_in, u16_in, u32_in, u64_in, text_in, list_in}
+use Rattle.command_fields.proofs.TableLaws.{by_version, last_lawful, then_ends, absent_ends, named_one, u8_in, u16_in, u32_in, u64_in, text_in, list_in}
 use Rattle.command_data.specs.declared.command.DataCommand.{DataCommand}
-use Rattle.command_data.specs.declared.command.DataCommand.TheVariants.{DeclarePublisher, Publish, PublishConfirm, PublishError, QueryPublisherSequence, SequenceAnswer, DeletePublisher, Subscribe, Deliver, Credit, CreditFault, StoreOffset, QueryOffset, OffsetAnswer, Unsubscribe, Plain}
+use Rattle.command_data.specs.declared.command.DataCommand.TheVariants.{Plain}
 use Rattle.command_data.specs.declared.key.DataKey.{DataKey}
 use Rattle.command_data.specs.declared.key.DataKey.TheVariants as keys
 use Rattle.command_data.specs.Items.{tagged_of, tagged_parts, tagged_field, refusal_of, refusal_parts, refusal_field, of_header, delivered}
-use Rattle.command_data.specs.Commands.{IsPlainKey, data_layout, key_of, fields_of, command_of, key_named, data_table}
+use Rattle.command_data.specs.Commands.{IsPlainKey, data_layout, key_of, fields_of, command_of, key_named, newer_key, data_table}
 
 tagged_lawful : Lawful tagged_field
 tagged_lawful = mapped_lawful tagged_of tagged_parts (u64_field then entry_field) (λ x. refl) (λ y. refl) (then_lawful _ _ u64_lawful entry_lawful)
@@ -60,6 +60,7 @@ formats keys.DeletePublisher = id_ends
 formats keys.Subscribe =
     then_ends _ _ u32_in (then_ends _ _ u8_in (then_ends _ _ text_in (then_ends _ _ spec_lawful (then_ends _ _ u16_in (absent_ends _ (last_lawful _ (list_in _ property_lawful)) (list_some property_field))))))
 formats keys.Deliver = then_ends _ _ u8_in (last_lawful _ delivered_lawful)
+formats keys.Deliver2 = then_ends _ _ u8_in (then_ends _ _ u64_in (last_lawful _ delivered_lawful))
 formats keys.Credit = then_ends _ _ u8_in (last_lawful _ u16_in)
 formats keys.CreditFault = then_ends _ _ u16_in (last_lawful _ u8_in)
 formats keys.StoreOffset = then_ends _ _ text_in (then_ends _ _ text_in (last_lawful _ u64_in))
@@ -74,48 +75,55 @@ plain_named n (inr (inl is)) = rw is refl
 plain_named n (inr (inr (inl is))) = rw is refl
 plain_named n (inr (inr (inr is))) = rw is refl
 
-named : (k : DataKey) → (data_layout k).Known → key_named (data_layout k).code ≡ Some k
-named keys.DeclarePublisher known = refl
-named keys.Publish known = refl
-named keys.PublishConfirm known = refl
-named keys.PublishError known = refl
-named keys.QueryPublisherSequence known = refl
-named keys.SequenceAnswer known = refl
-named keys.DeletePublisher known = refl
-named keys.Subscribe known = refl
-named keys.Deliver known = refl
-named keys.Credit known = refl
-named keys.CreditFault known = refl
-named keys.StoreOffset known = refl
-named keys.QueryOffset known = refl
-named keys.OffsetAnswer known = refl
-named keys.Unsubscribe known = refl
-named (keys.Plain n) known = plain_named n known
+named : (k : DataKey) → (data_layout k).Known → (first : DataKey) × (key_named (data_layout k).code ≡ Some first) × (in_version newer_key first (data_layout k).version ≡ Some k)
+named keys.Deliver2 known = (keys.Deliver, refl, refl)
+named (keys.Plain n) known = (keys.Plain n, plain_named n known, refl)
+named k known = (k, refl, refl)
 
 abbrev Right : ℕ → DataKey → Type 0
-Right n k = (data_layout k).Known × ((data_layout k).code ≡ n)
+Right n k = (data_layout k).Known × ((data_layout k).code ≡ n) × ((data_layout k).version ≡ 1)
 
-known : (n : ℕ) (k : DataKey) → key_named n ≡ Some k → Right n k
-known n k e =
-    named_one (Right n) _ n 0x0001 keys.DeclarePublisher k _ refl (λ is. (tt, sym is)) e λ e.
-    named_one (Right n) _ n 0x0002 keys.Publish k _ refl (λ is. (tt, sym is)) e λ e.
-    named_one (Right n) _ n 0x0003 keys.PublishConfirm k _ refl (λ is. (tt, sym is)) e λ e.
-    named_one (Right n) _ n 0x0004 keys.PublishError k _ refl (λ is. (tt, sym is)) e λ e.
-    named_one (Right n) _ n 0x0005 keys.QueryPublisherSequence k _ refl (λ is. (tt, sym is)) e λ e.
-    named_one (Right n) _ n 0x8005 keys.SequenceAnswer k _ refl (λ is. (tt, sym is)) e λ e.
-    named_one (Right n) _ n 0x0006 keys.DeletePublisher k _ refl (λ is. (tt, sym is)) e λ e.
-    named_one (Right n) _ n 0x0007 keys.Subscribe k _ refl (λ is. (tt, sym is)) e λ e.
-    named_one (Right n) _ n 0x0008 keys.Deliver k _ refl (λ is. (tt, sym is)) e λ e.
-    named_one (Right n) _ n 0x0009 keys.Credit k _ refl (λ is. (tt, sym is)) e λ e.
-    named_one (Right n) _ n 0x8009 keys.CreditFault k _ refl (λ is. (tt, sym is)) e λ e.
-    named_one (Right n) _ n 0x000a keys.StoreOffset k _ refl (λ is. (tt, sym is)) e λ e.
-    named_one (Right n) _ n 0x000b keys.QueryOffset k _ refl (λ is. (tt, sym is)) e λ e.
-    named_one (Right n) _ n 0x800b keys.OffsetAnswer k _ refl (λ is. (tt, sym is)) e λ e.
-    named_one (Right n) _ n 0x000c keys.Unsubscribe k _ refl (λ is. (tt, sym is)) e λ e.
-    named_one (Right n) _ n 0x8001 (keys.Plain n) k _ refl (λ is. (inl is, refl)) e λ e.
-    named_one (Right n) _ n 0x8006 (keys.Plain n) k _ refl (λ is. (inr (inl is), refl)) e λ e.
-    named_one (Right n) _ n 0x8007 (keys.Plain n) k _ refl (λ is. (inr (inr (inl is)), refl)) e λ e.
-    named_one (Right n) _ n 0x800c (keys.Plain n) k _ refl (λ is. (inr (inr (inr is)), refl)) e λ e. absurd cc
+-- the keys of version 1
+begins : (n : ℕ) (k : DataKey) → key_named n ≡ Some k → Right n k
+begins n k e =
+    named_one (Right n) _ n 0x0001 keys.DeclarePublisher k _ refl (λ is. (tt, sym is, refl)) e λ e.
+    named_one (Right n) _ n 0x0002 keys.Publish k _ refl (λ is. (tt, sym is, refl)) e λ e.
+    named_one (Right n) _ n 0x0003 keys.PublishConfirm k _ refl (λ is. (tt, sym is, refl)) e λ e.
+    named_one (Right n) _ n 0x0004 keys.PublishError k _ refl (λ is. (tt, sym is, refl)) e λ e.
+    named_one (Right n) _ n 0x0005 keys.QueryPublisherSequence k _ refl (λ is. (tt, sym is, refl)) e λ e.
+    named_one (Right n) _ n 0x8005 keys.SequenceAnswer k _ refl (λ is. (tt, sym is, refl)) e λ e.
+    named_one (Right n) _ n 0x0006 keys.DeletePublisher k _ refl (λ is. (tt, sym is, refl)) e λ e.
+    named_one (Right n) _ n 0x0007 keys.Subscribe k _ refl (λ is. (tt, sym is, refl)) e λ e.
+    named_one (Right n) _ n 0x0008 keys.Deliver k _ refl (λ is. (tt, sym is, refl)) e λ e.
+    named_one (Right n) _ n 0x0009 keys.Credit k _ refl (λ is. (tt, sym is, refl)) e λ e.
+    named_one (Right n) _ n 0x8009 keys.CreditFault k _ refl (λ is. (tt, sym is, refl)) e λ e.
+    named_one (Right n) _ n 0x000a keys.StoreOffset k _ refl (λ is. (tt, sym is, refl)) e λ e.
+    named_one (Right n) _ n 0x000b keys.QueryOffset k _ refl (λ is. (tt, sym is, refl)) e λ e.
+    named_one (Right n) _ n 0x800b keys.OffsetAnswer k _ refl (λ is. (tt, sym is, refl)) e λ e.
+    named_one (Right n) _ n 0x000c keys.Unsubscribe k _ refl (λ is. (tt, sym is, refl)) e λ e.
+    named_one (Right n) _ n 0x8001 (keys.Plain n) k _ refl (λ is. (inl is, refl, refl)) e λ e.
+    named_one (Right n) _ n 0x8006 (keys.Plain n) k _ refl (λ is. (inr (inl is), refl, refl)) e λ e.
+    named_one (Right n) _ n 0x8007 (keys.Plain n) k _ refl (λ is. (inr (inr (inl is)), refl, refl)) e λ e.
+    named_one (Right n) _ n 0x800c (keys.Plain n) k _ refl (λ is. (inr (inr (inr is)), refl, refl)) e λ e. absurd cc
+
+abbrev Known : ℕ → ℕ → DataKey → Type 0
+Known n version k = (data_layout k).Known × ((data_layout k).code ≡ n) × ((data_layout k).version ≡ version)
+
+some_is : (j k : DataKey) → ◌≡◌ {A = Option DataKey} (Some j) (Some k) → j ≡ k
+some_is j k e = cc
+
+-- the keys of version 2
+goes_on : (first k : DataKey) (n version : ℕ) → Right n first → newer_key first ≡ Some k → version ≡ 2 → Known n version k
+goes_on keys.Deliver k n version right e two = subst (Known n version) (some_is keys.Deliver2 k e) (tt, right.1, sym two)
+goes_on first k n version right e two = absurd cc
+
+known : (n version : ℕ) (first k : DataKey) → key_named n ≡ Some first → in_version newer_key first version ≡ Some k → Known n version k
+known n version first k named e =
+    let right = begins n first named in
+    elim (by_version newer_key first k version e) [
+      | inl one ↦ subst (Known n version) one.1 (right.0, right.1, right.2 ∙ sym one.0)
+      | inr two ↦ goes_on first k n version right two.1 two.0
+    ]
 
 plain_small : (n : ℕ) → IsPlainKey n → n < 2 ^ 16
 plain_small n (inl is) = omega (arith, is)
@@ -123,62 +131,20 @@ plain_small n (inr (inl is)) = omega (arith, is)
 plain_small n (inr (inr (inl is))) = omega (arith, is)
 plain_small n (inr (inr (inr is))) = omega (arith, is)
 
-small : (k : DataKey) → (data_layout k).Known → (data_layout k).code < 2 ^ 16
-small keys.DeclarePublisher known = omega arith
-small keys.Publish known = omega arith
-small keys.PublishConfirm known = omega arith
-small keys.PublishError known = omega arith
-small keys.QueryPublisherSequence known = omega arith
-small keys.SequenceAnswer known = omega arith
-small keys.DeletePublisher known = omega arith
-small keys.Subscribe known = omega arith
-small keys.Deliver known = omega arith
-small keys.Credit known = omega arith
-small keys.CreditFault known = omega arith
-small keys.StoreOffset known = omega arith
-small keys.QueryOffset known = omega arith
-small keys.OffsetAnswer known = omega arith
-small keys.Unsubscribe known = omega arith
-small (keys.Plain n) known = plain_small n known
+small : (k : DataKey) → (data_layout k).Known → ((data_layout k).code < 2 ^ 16) × ((data_layout k).version < 2 ^ 16)
+small (keys.Plain n) known = (plain_small n known, omega arith)
+small k known = (omega arith, omega arith)
 
 made : (c : DataCommand) → command_of (key_of c) (fields_of c) ≡ c
-made (DeclarePublisher corr publisher reference stream) = refl
-made (Publish publisher items) = refl
-made (PublishConfirm publisher items) = refl
-made (PublishError publisher items) = refl
-made (QueryPublisherSequence corr reference stream) = refl
-made (SequenceAnswer corr code content) = refl
-made (DeletePublisher corr publisher) = refl
-made (Subscribe corr sub stream spec credit properties) = refl
-made (Deliver sub header payload) = refl
-made (Credit sub credit) = refl
-made (CreditFault code sub) = refl
-made (StoreOffset reference stream offset) = refl
-made (QueryOffset corr reference stream) = refl
-made (OffsetAnswer corr code content) = refl
-made (Unsubscribe corr sub) = refl
 made (Plain key corr code) = refl
+made c = refl
 
 abbrev Made : Type 0
 Made = (k : DataKey) × (data_layout k).Fields
 
 apart : (k : DataKey) (x : (data_layout k).Fields) → ◌≡◌ {A = Made} (key_of (command_of k x), fields_of (command_of k x)) (k, x)
-apart keys.DeclarePublisher x = refl
-apart keys.Publish x = refl
-apart keys.PublishConfirm x = refl
-apart keys.PublishError x = refl
-apart keys.QueryPublisherSequence x = refl
-apart keys.SequenceAnswer x = refl
-apart keys.DeletePublisher x = refl
-apart keys.Subscribe x = refl
-apart keys.Deliver x = refl
-apart keys.Credit x = refl
-apart keys.CreditFault x = refl
-apart keys.StoreOffset x = refl
-apart keys.QueryOffset x = refl
-apart keys.OffsetAnswer x = refl
-apart keys.Unsubscribe x = refl
 apart (keys.Plain n) x = refl
+apart k x = refl
 
 pub data_lawful : LawfulTable data_table
 data_lawful = record { formats = formats; named = named; known = known; small = small; made = made; apart = apart }

@@ -1,3 +1,2 @@
 pub mod DataLaws
 pub mod Arms
-pub mod FitLaws

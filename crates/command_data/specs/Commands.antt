@@ -5,9 +5,9 @@ use Rattle.frame_wire.specs.Joins.{◌then◌, or_absent}
 use Rattle.command_fields.specs.declared.fault.DecodeFault.{DecodeFault}
 use Rattle.command_fields.specs.Offsets.{spec_field}
 use Rattle.command_fields.specs.Properties.{property_field}
-use Rattle.command_fields.specs.Tables.{Layout, layout, layout_if, Table, SpellsIn, WrongIn, last, u8, u16, u32, u64, text, list_of}
+use Rattle.command_fields.specs.Tables.{Layout, layout, layout_if, layout_two, Table, SpellsIn, WrongIn, last, u8, u16, u32, u64, text, list_of}
 use Rattle.command_data.specs.declared.command.DataCommand.{DataCommand}
-use Rattle.command_data.specs.declared.command.DataCommand.TheVariants.{DeclarePublisher, Publish, PublishConfirm, PublishError, QueryPublisherSequence, SequenceAnswer, DeletePublisher, Subscribe, Deliver, Credit, CreditFault, StoreOffset, QueryOffset, OffsetAnswer, Unsubscribe, Plain}
+use Rattle.command_data.specs.declared.command.DataCommand.TheVariants.{DeclarePublisher, Publish, PublishConfirm, PublishError, QueryPublisherSequence, SequenceAnswer, DeletePublisher, Subscribe, Deliver, Deliver2, Credit, CreditFault, StoreOffset, QueryOffset, OffsetAnswer, Unsubscribe, Plain}
 use Rattle.command_data.specs.declared.key.DataKey.{DataKey}
 use Rattle.command_data.specs.declared.key.DataKey.TheVariants as keys
 use Rattle.command_data.specs.Items.{tagged_field, refusal_field, delivered}
@@ -16,7 +16,7 @@ use Rattle.command_data.specs.Items.{tagged_field, refusal_field, delivered}
 abbrev pub IsPlainKey : ℕ → Type 0
 IsPlainKey n = (n ≡ 0x8001) ⊎ ((n ≡ 0x8006) ⊎ ((n ≡ 0x8007) ⊎ (n ≡ 0x800c)))
 
--- ---- the table: the code of each key, and the fields behind key and version
+-- ---- the table: the code of each key, in version 1 where no other is named, and the fields behind both
 
 abbrev pub data_layout : DataKey → Layout
 data_layout keys.DeclarePublisher = layout 0x0001 (u32 then u8 then text then last text)
@@ -28,6 +28,7 @@ data_layout keys.SequenceAnswer = layout 0x8005 (u32 then u16 then or_absent (la
 data_layout keys.DeletePublisher = layout 0x0006 (u32 then last u8)
 data_layout keys.Subscribe = layout 0x0007 (u32 then u8 then text then spec_field then u16 then or_absent (last (list_of property_field)))
 data_layout keys.Deliver = layout 0x0008 (u8 then last delivered)
+data_layout keys.Deliver2 = layout_two 0x0008 (u8 then u64 then last delivered)
 data_layout keys.Credit = layout 0x0009 (u8 then last u16)
 data_layout keys.CreditFault = layout 0x8009 (u16 then last u8)
 data_layout keys.StoreOffset = layout 0x000a (text then text then last u64)
@@ -46,6 +47,7 @@ key_of (SequenceAnswer corr code content) = keys.SequenceAnswer
 key_of (DeletePublisher corr publisher) = keys.DeletePublisher
 key_of (Subscribe corr sub stream spec credit properties) = keys.Subscribe
 key_of (Deliver sub header payload) = keys.Deliver
+key_of (Deliver2 sub committed header payload) = keys.Deliver2
 key_of (Credit sub credit) = keys.Credit
 key_of (CreditFault code sub) = keys.CreditFault
 key_of (StoreOffset reference stream offset) = keys.StoreOffset
@@ -64,6 +66,7 @@ fields_of (SequenceAnswer corr code content) = (corr, (code, content))
 fields_of (DeletePublisher corr publisher) = (corr, publisher)
 fields_of (Subscribe corr sub stream spec credit properties) = (corr, (sub, (stream, (spec, (credit, properties)))))
 fields_of (Deliver sub header payload) = (sub, (header, payload))
+fields_of (Deliver2 sub committed header payload) = (sub, (committed, (header, payload)))
 fields_of (Credit sub credit) = (sub, credit)
 fields_of (CreditFault code sub) = (code, sub)
 fields_of (StoreOffset reference stream offset) = (reference, (stream, offset))
@@ -82,6 +85,7 @@ command_of keys.SequenceAnswer (corr, (code, content)) = SequenceAnswer corr cod
 command_of keys.DeletePublisher (corr, publisher) = DeletePublisher corr publisher
 command_of keys.Subscribe (corr, (sub, (stream, (spec, (credit, properties))))) = Subscribe corr sub stream spec credit properties
 command_of keys.Deliver (sub, (header, payload)) = Deliver sub header payload
+command_of keys.Deliver2 (sub, (committed, (header, payload))) = Deliver2 sub committed header payload
 command_of keys.Credit (sub, credit) = Credit sub credit
 command_of keys.CreditFault (code, sub) = CreditFault code sub
 command_of keys.StoreOffset (reference, (stream, offset)) = StoreOffset reference stream offset
@@ -90,6 +94,7 @@ command_of keys.OffsetAnswer (corr, (code, content)) = OffsetAnswer corr code co
 command_of keys.Unsubscribe (corr, sub) = Unsubscribe corr sub
 command_of (keys.Plain n) (corr, code) = Plain n corr code
 
+-- the key of a code in version 1
 abbrev pub key_named : ℕ → Option DataKey
 key_named n =
     if n == 0x0001 then Some keys.DeclarePublisher else
@@ -113,8 +118,13 @@ key_named n =
     if n == 0x800c then Some (keys.Plain n) else
     None
 
+-- a delivery has a second version
+abbrev pub newer_key : DataKey → Option DataKey
+newer_key keys.Deliver = Some keys.Deliver2
+newer_key _ = None
+
 abbrev pub data_table : Table DataCommand DataKey
-data_table = record { layout_of = data_layout; key = key_of; fields = fields_of; make = command_of; named = key_named }
+data_table = record { layout_of = data_layout; key = key_of; fields = fields_of; make = command_of; named = key_named; newer = newer_key }
 
 -- a command and its body
 abbrev pub DataSpells : DataCommand → List ℕ → Type 0

@@ -5,7 +5,7 @@ use chunk_format::Header;
 use command_fields::{OffsetSpec, Property};
 use frame_wire::{Octets, Row, Text};
 
-/// A command of publishers and consumers, in its version 1. `corr` is the correlation of a request and its answer,
+/// A command of publishers and consumers, in version 1 but for `Deliver2`. `corr` is the correlation of a request and its answer,
 /// `publisher` and `sub` are the ids that a connection gave a publisher and a subscription, `code` is a response code,
 /// of which 0x01 is success.
 #[derive(Debug, Drop)]
@@ -61,6 +61,13 @@ pub enum DataCommand {
     /// Key 0x0008: a chunk, by its 48 header bytes and its payload of the header's length.
     Deliver {
         sub: u8,
+        header: Header,
+        payload: Octets,
+    },
+    /// Key 0x0008 in version 2: the same, with the first offset of the last committed chunk.
+    Deliver2 {
+        sub: u8,
+        committed: u64,
         header: Header,
         payload: Octets,
     },

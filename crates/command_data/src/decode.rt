@@ -12,10 +12,10 @@ ghost use Rattle.command_data.specs.declared.key.DataKey.TheVariants as keys;
 ghost use Rattle.command_fields.specs.declared.fault.DecodeFault.{DecodeFault};
 
 use crate::command::DataCommand;
-use crate::key::{DataKey, key_of};
+use crate::key::{DataKey, in_version, key_of};
 use crate::shape::{read_id, read_number, read_two_texts};
 use chunk_format::{Header, HeaderFault, read_header};
-use command_fields::{DecodeError, DecodeFault, OffsetSpec, Property, ended, read_version};
+use command_fields::{DecodeError, DecodeFault, OffsetSpec, Property, ended};
 use frame_wire::{Item, Octets, Row, Scan, Text, read_list};
 use std::alloc::Global;
 
@@ -172,6 +172,21 @@ fn deliver(alloc: Global, scan: &mut Scan<'_>) -> Result<DataCommand, DecodeErro
 }
 
 #[tactic(auto, unfolding(command_fields::specs::Tables::fields_at))]
+fn deliver_two(alloc: Global, scan: &mut Scan<'_>) -> Result<DataCommand, DecodeError>
+    ensures { GivesAt result scan.new (fields_at data_table keys.Deliver2 scan.old) }
+{
+    let sub = scan.u8()?;
+    let committed = scan.u64()?;
+    let (header, payload) = read_delivered(alloc, scan)?;
+    Ok(DataCommand::Deliver2 {
+        sub,
+        committed,
+        header,
+        payload,
+    })
+}
+
+#[tactic(auto, unfolding(command_fields::specs::Tables::fields_at))]
 fn credit(scan: &mut Scan<'_>) -> Result<DataCommand, DecodeError>
     ensures { GivesAt result scan.new (fields_at data_table keys.Credit scan.old) }
 {
@@ -261,6 +276,7 @@ fn fields(alloc: Global, key: DataKey, scan: &mut Scan<'_>) -> Result<DataComman
         DataKey::DeletePublisher => delete_publisher(scan),
         DataKey::Subscribe => subscribe(alloc, scan),
         DataKey::Deliver => deliver(alloc, scan),
+        DataKey::Deliver2 => deliver_two(alloc, scan),
         DataKey::Credit => credit(scan),
         DataKey::CreditFault => credit_fault(scan),
         DataKey::StoreOffset => store_offset(alloc, scan),
@@ -277,18 +293,23 @@ fn read_body(alloc: Global, body: &[u8]) -> Result<DataCommand, DecodeError>
 {
     let mut scan = Scan::new(body);
     let code = scan.u16()?;
-    let Some(key) = key_of(code) else {
+    let Some(first) = key_of(code) else {
         return Err(DecodeError::Fault(DecodeFault::UnknownKey { place: 0 }));
     };
-    read_version(&mut scan)?;
+    let place = scan.place();
+    let version = scan.u16()?;
+    let Some(key) = in_version(first, version) else {
+        return Err(DecodeError::Fault(DecodeFault::Version { place }));
+    };
     fields(alloc, key, &mut scan)
 }
 
-/// The command that a body spells, all of the body: two bytes of key, two of version, which is 1, and the fields. Else
-/// the first wrong field with its place in bytes: `UnknownKey` at 0, `Version` at 2, `Short`, `Negative`, `Flag` and
-/// `OffsetType` at the field's first byte, and `Long` at the first byte behind the last field. A list's count and each
-/// field of its items are fields of their own, and so are a delivery's 48 header bytes and its payload. `Flag` is a header
-/// with a wrong magic, version, kind or zero bytes. The checksum is not looked at. `Memory` comes where memory runs out.
+/// The command that a body spells, all of the body: two bytes of key, two of version, which is 1, or for a delivery 1 or
+/// 2, and the fields. Else the first wrong field with its place in bytes: `UnknownKey` at 0, `Version` at 2, `Short`,
+/// `Negative`, `Flag` and `OffsetType` at the field's first byte, and `Long` at the first byte behind the last field. A
+/// list's count and each field of its items are fields of their own, and so are a delivery's 48 header bytes and its
+/// payload. `Flag` is a header with a wrong magic, version, kind or zero bytes. The checksum is not looked at. `Memory`
+/// comes where memory runs out.
 pub fn decode_data(alloc: Global, body: &[u8]) -> Result<DataCommand, DecodeError>
     // What is read is spelled so.
     ensures found { IfOk result (λ c. DataSpells c body.now) }

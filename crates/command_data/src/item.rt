@@ -101,6 +101,7 @@ fn entry_size(entry: &Entry) -> Option<u64>
 }
 
 /// The number of bytes of a publishing id and an entry of so many.
+#[tactic(auto, using(command_fields::proofs::SizeLaws::lengths))]
 fn size_of_tagged(id: u64, entry: &Entry) -> Option<u64>
     ensures { Measures (u64_field then entry_field) (id, entry.now) result }
 {
@@ -114,6 +115,7 @@ fn size_of_tagged(id: u64, entry: &Entry) -> Option<u64>
 }
 
 /// The ten bytes of a publishing id and a code.
+#[tactic(auto, using(command_fields::proofs::SizeLaws::lengths))]
 fn size_of_refusal(id: u64, code: u16) -> Option<u64>
     ensures { Measures (u64_field then u16_field) (id, code) result }
 {

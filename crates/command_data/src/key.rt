@@ -1,8 +1,9 @@
 //! The keys of the data commands.
 
 ghost use Rattle.std.specs.Prelude.{◌≡◌};
+ghost use Rattle.command_fields.specs.Tables.{in_version};
 ghost use Rattle.command_data.specs.declared.key.DataKey.TheVariants as keys;
-ghost use Rattle.command_data.specs.Commands.{key_named, data_layout};
+ghost use Rattle.command_data.specs.Commands.{key_named, data_table};
 
 /// Which command a body is of, by the variants of `DataCommand`.
 #[derive(Clone, Copy, Debug, PartialEq, Eq)]
@@ -16,6 +17,8 @@ pub enum DataKey {
     DeletePublisher,
     Subscribe,
     Deliver,
+    /// The second version of `Deliver`.
+    Deliver2,
     Credit,
     CreditFault,
     StoreOffset,
@@ -26,7 +29,7 @@ pub enum DataKey {
     Plain(u16),
 }
 
-/// The key of a code, if it is one of this half of the commands.
+/// The key of a code in version 1, if it is one of this half of the commands.
 pub fn key_of(code: u16) -> Option<DataKey>
     ensures { result ≡ key_named code }
 {
@@ -47,6 +50,20 @@ pub fn key_of(code: u16) -> Option<DataKey>
         0x800b => Some(DataKey::OffsetAnswer),
         0x000c => Some(DataKey::Unsubscribe),
         0x8001 | 0x8006 | 0x8007 | 0x800c => Some(DataKey::Plain(code)),
+        _ => None,
+    }
+}
+
+/// The key of the same code in this version, if there is one: every key has version 1, and a delivery version 2 too.
+pub(crate) fn in_version(first: DataKey, version: u16) -> Option<DataKey>
+    ensures { result ≡ in_version data_table.newer first version }
+{
+    match version {
+        1 => Some(first),
+        2 => match first {
+            DataKey::Deliver => Some(DataKey::Deliver2),
+            _ => None,
+        },
         _ => None,
     }
 }

@@ -9,12 +9,14 @@ mod fits;
 mod item;
 mod key;
 mod laws;
+mod put;
 mod shape;
+mod size;
 
 pub use command::DataCommand;
 pub use decode::decode_data;
-pub use encode::encode_data;
-pub use fits::fits_data;
+pub use encode::{encode_data, put_data};
+pub use fits::{data_size, fits_data};
 pub use item::{Refusal, Tagged};
 pub use key::{DataKey, key_of as data_key_of};
 pub use laws::data_bodies_have_one_outcome;

@@ -1,3 +1,4 @@
 pub mod OffsetLaws
 pub mod TableLaws
 pub mod SizeLaws
+pub mod AddLaws

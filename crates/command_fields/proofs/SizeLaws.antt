@@ -1,17 +1,17 @@
 -- The lengths of spellings.
-use Rattle.std.proofs.Common.{◌≡◌, ℕ, zero, suc, ◌+◌, ◌<◌, ◌≤◌, List, [], ◌∷◌, ◌++◌, length, take, get_or, Bool, Option, Some, None, sym, ap, subst, arith}
+use Rattle.std.proofs.Common.{◌≡◌, ℕ, ℤ, zero, suc, refl, ◌+◌, ◌<◌, ◌≤◌, List, [], ◌∷◌, ◌++◌, length, take, get_or, Bool, Option, Some, None, sym, ap, subst, arith}
 use Rattle.std.specs.List.{flat_map, AllByRecursion}
 use Rattle.std.proofs.lemmas.List.{length-append, take_all}
 use Rattle.std.proofs.lemmas.List.Folds.{length-flat_map-take}
-use Rattle.frame_wire.specs.Fields.{u16_bytes, text_bytes, IsText, count_bytes}
+use Rattle.frame_wire.specs.Fields.{u16_bytes, i64_bytes, text_bytes, IsText, count_bytes}
 use Rattle.frame_wire.specs.Formats.{Format, text_field}
 use Rattle.frame_wire.specs.Joins.{◌then◌, list, list_bytes}
 use Rattle.frame_wire.specs.declared.fault.FieldFault.{FieldFault}
 use Rattle.frame_wire.specs.Items.{same_fault}
-use Rattle.frame_wire.proofs.FieldLaws.{u16_length, u32_length}
-use Rattle.std.specs.Prelude.{IsTrue, ◌↔◌}
-use Rattle.command_fields.specs.Tables.{Table, body_of, FieldsFit, FitsIn}
-use Rattle.command_fields.specs.Sizes.{Measures, MeasuresText}
+use Rattle.frame_wire.proofs.FieldLaws.{u8_length, u16_length, u32_length, u64_length}
+use Rattle.std.specs.Prelude.{IsTrue, is_some, ◌↔◌}
+use Rattle.command_fields.specs.Tables.{Table, body_of, FitsIn}
+use Rattle.command_fields.specs.Sizes.{Measures, MeasuresText, MeasuresIn}
 
 pub is_text : (text : Option (List ℕ)) (bytes : List ℕ) → Some bytes ≡ text → IsText text → MeasuresText text (2 + length bytes)
 is_text (Some all) bytes is fits =
@@ -71,10 +71,31 @@ all_items {A} f xs i total few done counted =
 body_length : {C K : Type 0} (table : Table C K) (c : C) → length (body_of table c) ≡ 4 + length ((table.layout_of (table.key c)).format.spell (table.fields c))
 body_length table c =
     let l = table.layout_of (table.key c) in
-    omega (arith, length-append (u16_bytes l.code) (u16_bytes 1 ++ l.format.spell (table.fields c)), length-append (u16_bytes 1) (l.format.spell (table.fields c)), u16_length l.code, u16_length 1)
+    omega (arith, length-append (u16_bytes l.code) (u16_bytes l.version ++ l.format.spell (table.fields c)), length-append (u16_bytes l.version) (l.format.spell (table.fields c)), u16_length l.code, u16_length l.version)
 
--- A command fits exactly where its fields do.
-pub fields_fit : {C K : Type 0} (table : Table C K) (c : C) (result : Bool) → IsTrue result ↔ FieldsFit table c → IsTrue result ↔ FitsIn table c
-fields_fit table c result same =
+-- ---- a command's body, by the lengths of its fields
+
+pub body_measured : {C K : Type 0} (table : Table C K) (c : C) (n : ℕ) → (table.layout_of (table.key c)).Known → Measures (table.layout_of (table.key c)).format (table.fields c) (Some n) → n ≤ 4294967291 → MeasuresIn table c (Some (4 + n))
+body_measured table c n known measured short =
     let len = body_length table c in
-    (λ is. let all = same.0 is in ((all.0, all.1.0), omega (arith, len, all.1.1)), λ fits. same.1 (fits.0.0, (fits.0.1, omega (arith, len, fits.1))))
+    (((known, measured.0), omega (arith, len, measured.1)), omega (arith, len, measured.1))
+
+pub body_long : {C K : Type 0} (table : Table C K) (c : C) (n : ℕ) → Measures (table.layout_of (table.key c)).format (table.fields c) (Some n) → 4294967291 < n → MeasuresIn table c None
+body_long table c n measured long fits = omega (arith, body_length table c, measured.1, fits.1)
+
+pub body_none : {C K : Type 0} (table : Table C K) (c : C) → Measures (table.layout_of (table.key c)).format (table.fields c) None → MeasuresIn table c None
+body_none table c none fits = none fits.0.1 (omega (arith, body_length table c, fits.1))
+
+pub body_unknown : {C K : Type 0} (table : Table C K) (c : C) → ((table.layout_of (table.key c)).Known → ⊥) → MeasuresIn table c None
+body_unknown table c unknown fits = unknown fits.0.0
+
+-- a command fits exactly where its body has a length
+pub fits_measured : {C K : Type 0} (table : Table C K) (c : C) (size : Option ℕ) → MeasuresIn table c size → IsTrue (is_some size) ↔ FitsIn table c
+fits_measured table c (Some n) measured = (λ is. measured.0, λ fits. refl)
+fits_measured table c None measured = (λ is. absurd cc, λ fits. absurd (measured fits))
+
+pub i64_length : (n : ℤ) → length (i64_bytes n) ≡ 8
+unfolding i64_bytes
+i64_length n = refl
+
+pub ruleset lengths = (length-append, u8_length, u16_length, u32_length, u64_length, i64_length)

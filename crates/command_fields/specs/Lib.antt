@@ -4,3 +4,4 @@ pub mod Properties
 pub mod Tables
 pub mod Sizes
 pub mod Codes
+pub mod Adding

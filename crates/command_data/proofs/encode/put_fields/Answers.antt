@@ -38,7 +38,7 @@ pub returns-in-Subscribe : goal.returns-in-Subscribe
 returns-in-Subscribe c = as_spelled c.put_subscribe.result c.put_subscribe.new.out c.args.out.now c.in-Subscribe.is c.put_subscribe.ensures
 
 pub returns-in-Deliver : goal.returns-in-Deliver
-returns-in-Deliver c = as_spelled c.put_delivered.result c.put_delivered.new.out c.args.out.now c.in-Deliver.is c.put_delivered.ensures
+returns-in-Deliver c = as_spelled c.put_deliver.result c.put_deliver.new.out c.args.out.now c.in-Deliver.is c.put_deliver.ensures
 
 pub returns-in-Credit : goal.returns-in-Credit
 returns-in-Credit c = as_spelled c.put_credit.result c.put_credit.new.out c.args.out.now c.in-Credit.is c.put_credit.ensures
@@ -60,3 +60,6 @@ returns-in-Unsubscribe c = as_spelled c.put_id-in-Unsubscribe.result c.put_id-in
 
 pub returns-in-Plain : goal.returns-in-Plain
 returns-in-Plain c = as_spelled c.put_code.result c.put_code.new.out c.args.out.now c.in-Plain.is c.put_code.ensures
+
+pub returns-in-Deliver2 : goal.returns-in-Deliver2
+returns-in-Deliver2 c = as_spelled c.put_deliver_two.result c.put_deliver_two.new.out c.args.out.now c.in-Deliver2.is c.put_deliver_two.ensures

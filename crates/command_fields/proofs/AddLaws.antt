@@ -1,0 +1,17 @@
+-- Bytes that are added one part after another.
+use Rattle.std.proofs.Common.{◌≡◌, ℕ, ◌≤◌, List, ◌++◌, length, take, Result, Ok, Err, sym, ap, ◌∙◌, append_assoc, arith}
+use Rattle.std.proofs.Math.Seq.{take-append_seam}
+use Rattle.std.proofs.lemmas.List.{length-append, take-take}
+use Rattle.std.specs.declared.alloc.AllocError.{AllocError}
+use Rattle.command_fields.specs.Adding.{Adds}
+
+-- a front of a front
+kept : (old front new : List ℕ) → take (length (old ++ front)) new ≡ old ++ front → take (length old) new ≡ old
+kept old front new e =
+    let n : length old ≤ length (old ++ front) = omega (arith, length-append old front) in
+    sym (take-take (length old) (length (old ++ front)) new n) ∙ ap (take (length old)) e ∙ take-append_seam old front
+
+-- a part, and then others behind it
+pub adds_more : (r : Result (Unit {0}) AllocError) (old mid new front bytes : List ℕ) → mid ≡ old ++ front → Adds r mid new bytes → Adds r old new (front ++ bytes)
+adds_more (Ok u) old mid new front bytes is added = added ∙ ap (λ (m : List ℕ). m ++ bytes) is ∙ append_assoc old front bytes
+adds_more (Err e) old mid new front bytes is added = kept old front new (ap (λ (m : List ℕ). take (length m) new) (sym is) ∙ added ∙ is)
