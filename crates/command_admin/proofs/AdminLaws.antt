@@ -1,5 +1,5 @@
 -- The administrative commands make a lawful table.
-use Rattle.std.proofs.Common.{◌≡◌, ℕ, ◌<◌, ◌^◌, cond, eqb, List, length, Option, Some, None, refl, sym, arith, inl, inr, length-append}
+use Rattle.std.proofs.Common.{◌≡◌, ℕ, ◌<◌, ◌^◌, cond, eqb, List, length, Option, Some, None, refl, sym, subst, ◌∙◌, arith, inl, inr, length-append}
 use Rattle.std.specs.List.{flat_map}
 use Rattle.frame_wire.specs.Fields.{u16_bytes, u32_bytes, u64_bytes, i64_bytes, blob_bytes}
 use Rattle.frame_wire.specs.Joins.{list_bytes, end_of}
@@ -12,9 +12,9 @@ use Rattle.command_fields.specs.declared.fault.DecodeFault.TheVariants.{Long}
 use Rattle.command_fields.specs.declared.offset.OffsetSpec.{OffsetSpec}
 use Rattle.command_fields.specs.declared.offset.OffsetSpec.TheVariants.{Unset, First, Last, Next, At, Since}
 use Rattle.command_fields.specs.Offsets.{spec_bytes}
-use Rattle.command_fields.specs.Tables.{LawfulEnd, LawfulTable}
+use Rattle.command_fields.specs.Tables.{LawfulEnd, LawfulTable, in_version}
 use Rattle.command_fields.proofs.OffsetLaws.{spec_lawful, property_lawful}
-use Rattle.command_fields.proofs.TableLaws.{last_lawful, then_ends, absent_ends, named_one, u8_in, u16_in, u32_in, text_in, blob_in, list_in}
+use Rattle.command_fields.proofs.TableLaws.{by_version, last_lawful, then_ends, absent_ends, named_one, u8_in, u16_in, u32_in, text_in, blob_in, list_in}
 use Rattle.command_admin.specs.declared.command.AdminCommand.{AdminCommand}
 use Rattle.command_admin.specs.declared.command.AdminCommand.TheVariants.{Plain}
 use Rattle.command_admin.specs.declared.key.AdminKey.{AdminKey}
@@ -97,12 +97,19 @@ plain_named n (inr (inr (inl is))) = rw is refl
 plain_named n (inr (inr (inr (inl is)))) = rw is refl
 plain_named n (inr (inr (inr (inr is)))) = rw is refl
 
-named : (k : AdminKey) → (admin_layout k).Known → key_named (admin_layout k).code ≡ Some k
-named (keys.Plain n) known = plain_named n known
-named k known = refl
+no_key : (k : AdminKey) → ◌≡◌ {A = Option AdminKey} None (Some k) → ⊥
+no_key k e = absurd cc
+
+-- no key has a second version
+abbrev in_one : AdminKey → ℕ → Option AdminKey
+in_one first version = in_version (λ k. None) first version
+
+named : (k : AdminKey) → (admin_layout k).Known → (first : AdminKey) × (key_named (admin_layout k).code ≡ Some first) × (in_one first (admin_layout k).version ≡ Some k)
+named (keys.Plain n) known = (keys.Plain n, plain_named n known, refl)
+named k known = (k, refl, refl)
 
 abbrev Found : ℕ → AdminKey → Type 0
-Found n k = (admin_layout k).Known × ((admin_layout k).code ≡ n)
+Found n k = (admin_layout k).Known × ((admin_layout k).code ≡ n) × ((admin_layout k).version ≡ 1)
 
 -- one line of the list of codes
 named_step : (n code : ℕ) (j k : AdminKey) (others : Option AdminKey) → (n ≡ code → Found n j) → cond (eqb n code) (Some j) others ≡ Some k → (others ≡ Some k → Found n k) → Found n k
@@ -111,43 +118,54 @@ named_step n code j k others is e next = named_one (Found n) (eqb n code) n code
 none_some : {n : ℕ} {k : AdminKey} → ◌≡◌ {A = Option AdminKey} None (Some k) → Found n k
 none_some e = absurd cc
 
-known : (n : ℕ) (k : AdminKey) → key_named n ≡ Some k → Found n k
-known n k e =
-    named_step n 0x000d keys.Create k _ (λ is. (tt, sym is)) e (λ e.
-    named_step n 0x000e keys.Delete k _ (λ is. (tt, sym is)) e (λ e.
-    named_step n 0x000f keys.Metadata k _ (λ is. (tt, sym is)) e (λ e.
-    named_step n 0x800f keys.MetadataAnswer k _ (λ is. (tt, sym is)) e (λ e.
-    named_step n 0x0010 keys.MetadataUpdate k _ (λ is. (tt, sym is)) e (λ e.
-    named_step n 0x0011 keys.PeerProperties k _ (λ is. (tt, sym is)) e (λ e.
-    named_step n 0x8011 keys.PeerAnswer k _ (λ is. (tt, sym is)) e (λ e.
-    named_step n 0x0012 keys.SaslHandshake k _ (λ is. (tt, sym is)) e (λ e.
-    named_step n 0x8012 keys.MechanismAnswer k _ (λ is. (tt, sym is)) e (λ e.
-    named_step n 0x0013 keys.SaslAuthenticate k _ (λ is. (tt, sym is)) e (λ e.
-    named_step n 0x8013 keys.SaslAnswer k _ (λ is. (tt, sym is)) e (λ e.
-    named_step n 0x0014 keys.Tune k _ (λ is. (tt, sym is)) e (λ e.
-    named_step n 0x8014 keys.TuneAnswer k _ (λ is. (tt, sym is)) e (λ e.
-    named_step n 0x0015 keys.OpenHost k _ (λ is. (tt, sym is)) e (λ e.
-    named_step n 0x8015 keys.HostAnswer k _ (λ is. (tt, sym is)) e (λ e.
-    named_step n 0x0016 keys.Close k _ (λ is. (tt, sym is)) e (λ e.
-    named_step n 0x0017 keys.Heartbeat k _ (λ is. (tt, sym is)) e (λ e.
-    named_step n 0x0018 keys.Route k _ (λ is. (tt, sym is)) e (λ e.
-    named_step n 0x8018 keys.RouteAnswer k _ (λ is. (tt, sym is)) e (λ e.
-    named_step n 0x0019 keys.Partitions k _ (λ is. (tt, sym is)) e (λ e.
-    named_step n 0x8019 keys.PartitionsAnswer k _ (λ is. (tt, sym is)) e (λ e.
-    named_step n 0x001a keys.ConsumerUpdate k _ (λ is. (tt, sym is)) e (λ e.
-    named_step n 0x801a keys.UpdateAnswer k _ (λ is. (tt, sym is)) e (λ e.
-    named_step n 0x001b keys.ExchangeVersions k _ (λ is. (tt, sym is)) e (λ e.
-    named_step n 0x801b keys.VersionsAnswer k _ (λ is. (tt, sym is)) e (λ e.
-    named_step n 0x001c keys.StreamStats k _ (λ is. (tt, sym is)) e (λ e.
-    named_step n 0x801c keys.StatsAnswer k _ (λ is. (tt, sym is)) e (λ e.
-    named_step n 0x001d keys.CreateSuper k _ (λ is. (tt, sym is)) e (λ e.
-    named_step n 0x001e keys.DeleteSuper k _ (λ is. (tt, sym is)) e (λ e.
-    named_step n 0x800d (keys.Plain n) k _ (λ is. (inl is, refl)) e (λ e.
-    named_step n 0x800e (keys.Plain n) k _ (λ is. (inr (inl is), refl)) e (λ e.
-    named_step n 0x8016 (keys.Plain n) k _ (λ is. (inr (inr (inl is)), refl)) e (λ e.
-    named_step n 0x801d (keys.Plain n) k _ (λ is. (inr (inr (inr (inl is))), refl)) e (λ e.
-    named_step n 0x801e (keys.Plain n) k _ (λ is. (inr (inr (inr (inr (is)))), refl)) e (λ e.
+begins : (n : ℕ) (k : AdminKey) → key_named n ≡ Some k → Found n k
+begins n k e =
+    named_step n 0x000d keys.Create k _ (λ is. (tt, sym is, refl)) e (λ e.
+    named_step n 0x000e keys.Delete k _ (λ is. (tt, sym is, refl)) e (λ e.
+    named_step n 0x000f keys.Metadata k _ (λ is. (tt, sym is, refl)) e (λ e.
+    named_step n 0x800f keys.MetadataAnswer k _ (λ is. (tt, sym is, refl)) e (λ e.
+    named_step n 0x0010 keys.MetadataUpdate k _ (λ is. (tt, sym is, refl)) e (λ e.
+    named_step n 0x0011 keys.PeerProperties k _ (λ is. (tt, sym is, refl)) e (λ e.
+    named_step n 0x8011 keys.PeerAnswer k _ (λ is. (tt, sym is, refl)) e (λ e.
+    named_step n 0x0012 keys.SaslHandshake k _ (λ is. (tt, sym is, refl)) e (λ e.
+    named_step n 0x8012 keys.MechanismAnswer k _ (λ is. (tt, sym is, refl)) e (λ e.
+    named_step n 0x0013 keys.SaslAuthenticate k _ (λ is. (tt, sym is, refl)) e (λ e.
+    named_step n 0x8013 keys.SaslAnswer k _ (λ is. (tt, sym is, refl)) e (λ e.
+    named_step n 0x0014 keys.Tune k _ (λ is. (tt, sym is, refl)) e (λ e.
+    named_step n 0x8014 keys.TuneAnswer k _ (λ is. (tt, sym is, refl)) e (λ e.
+    named_step n 0x0015 keys.OpenHost k _ (λ is. (tt, sym is, refl)) e (λ e.
+    named_step n 0x8015 keys.HostAnswer k _ (λ is. (tt, sym is, refl)) e (λ e.
+    named_step n 0x0016 keys.Close k _ (λ is. (tt, sym is, refl)) e (λ e.
+    named_step n 0x0017 keys.Heartbeat k _ (λ is. (tt, sym is, refl)) e (λ e.
+    named_step n 0x0018 keys.Route k _ (λ is. (tt, sym is, refl)) e (λ e.
+    named_step n 0x8018 keys.RouteAnswer k _ (λ is. (tt, sym is, refl)) e (λ e.
+    named_step n 0x0019 keys.Partitions k _ (λ is. (tt, sym is, refl)) e (λ e.
+    named_step n 0x8019 keys.PartitionsAnswer k _ (λ is. (tt, sym is, refl)) e (λ e.
+    named_step n 0x001a keys.ConsumerUpdate k _ (λ is. (tt, sym is, refl)) e (λ e.
+    named_step n 0x801a keys.UpdateAnswer k _ (λ is. (tt, sym is, refl)) e (λ e.
+    named_step n 0x001b keys.ExchangeVersions k _ (λ is. (tt, sym is, refl)) e (λ e.
+    named_step n 0x801b keys.VersionsAnswer k _ (λ is. (tt, sym is, refl)) e (λ e.
+    named_step n 0x001c keys.StreamStats k _ (λ is. (tt, sym is, refl)) e (λ e.
+    named_step n 0x801c keys.StatsAnswer k _ (λ is. (tt, sym is, refl)) e (λ e.
+    named_step n 0x001d keys.CreateSuper k _ (λ is. (tt, sym is, refl)) e (λ e.
+    named_step n 0x001e keys.DeleteSuper k _ (λ is. (tt, sym is, refl)) e (λ e.
+    named_step n 0x800d (keys.Plain n) k _ (λ is. (inl is, refl, refl)) e (λ e.
+    named_step n 0x800e (keys.Plain n) k _ (λ is. (inr (inl is), refl, refl)) e (λ e.
+    named_step n 0x8016 (keys.Plain n) k _ (λ is. (inr (inr (inl is)), refl, refl)) e (λ e.
+    named_step n 0x801d (keys.Plain n) k _ (λ is. (inr (inr (inr (inl is))), refl, refl)) e (λ e.
+    named_step n 0x801e (keys.Plain n) k _ (λ is. (inr (inr (inr (inr (is)))), refl, refl)) e (λ e.
     none_some e))))))))))))))))))))))))))))))))))
+
+abbrev Known : ℕ → ℕ → AdminKey → Type 0
+Known n version k = (admin_layout k).Known × ((admin_layout k).code ≡ n) × ((admin_layout k).version ≡ version)
+
+known : (n version : ℕ) (first k : AdminKey) → key_named n ≡ Some first → in_one first version ≡ Some k → Known n version k
+known n version first k named e =
+    let right = begins n first named in
+    elim (by_version {K = AdminKey} (λ k. None) first k version e) [
+      | inl one ↦ subst (Known n version) one.1 (right.0, right.1, right.2 ∙ sym one.0)
+      | inr two ↦ absurd (no_key k two.1)
+    ]
 
 plain_small : (n : ℕ) → IsPlainKey n → n < 2 ^ 16
 plain_small n (inl is) = omega arith
@@ -156,9 +174,9 @@ plain_small n (inr (inr (inl is))) = omega arith
 plain_small n (inr (inr (inr (inl is)))) = omega arith
 plain_small n (inr (inr (inr (inr is)))) = omega arith
 
-small : (k : AdminKey) → (admin_layout k).Known → (admin_layout k).code < 2 ^ 16
-small (keys.Plain n) known = plain_small n known
-small k known = omega arith
+small : (k : AdminKey) → (admin_layout k).Known → ((admin_layout k).code < 2 ^ 16) × ((admin_layout k).version < 2 ^ 16)
+small (keys.Plain n) known = (plain_small n known, omega arith)
+small k known = (omega arith, omega arith)
 
 made : (c : AdminCommand) → command_of (key_of c) (fields_of c) ≡ c
 made (Plain key corr code) = refl
@@ -170,3 +188,7 @@ apart k x = refl
 
 pub admin_lawful : LawfulTable admin_table
 admin_lawful = record { formats = formats; named = named; known = known; small = small; made = made; apart = apart }
+
+pub one_version : (c : AdminCommand) → (admin_layout (key_of c)).version ≡ 1
+one_version (Plain key corr code) = refl
+one_version c = refl

@@ -1,3 +1,2 @@
 pub mod AdminLaws
 pub mod FlagLaws
-pub mod Lengths

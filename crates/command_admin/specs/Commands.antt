@@ -187,7 +187,7 @@ key_named n =
     None
 
 abbrev pub admin_table : Table AdminCommand AdminKey
-admin_table = record { layout_of = admin_layout; key = key_of; fields = fields_of; make = command_of; named = key_named }
+admin_table = record { layout_of = admin_layout; key = key_of; fields = fields_of; make = command_of; named = key_named; newer = λ k. None }
 
 -- a command and its body
 abbrev pub AdminSpells : AdminCommand → List ℕ → Type 0

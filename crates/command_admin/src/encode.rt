@@ -1,7 +1,8 @@
 //! Writes administrative commands.
 
-ghost use Rattle.std.specs.Prelude.{◌≡◌, ◌++◌, OnOk, IfOk};
-ghost use Rattle.command_fields.specs.Tables.{IsCommand, FitsIn};
+ghost use Rattle.std.specs.Prelude.{◌≡◌, ◌++◌, OnOk, OnErr, IfOk};
+ghost use Rattle.command_fields.specs.Adding.{Adds};
+ghost use Rattle.command_fields.specs.Tables.{IsCommand, FitsIn, body_of};
 ghost use Rattle.command_admin.specs.Commands.{admin_table, admin_layout, key_of, fields_of, AdminSpells};
 
 use crate::command::AdminCommand;
@@ -13,48 +14,50 @@ use crate::put::{
 use frame_wire::{Octets, put_u16, put_u32};
 use std::alloc::{AllocError, Global};
 
-/// The key of a command.
-fn code_of(command: &AdminCommand) -> u16
-    ensures { result ≡ (admin_layout (key_of command.now)).code }
-{
-    match command {
-        AdminCommand::Create { .. } => 0x000d,
-        AdminCommand::Delete { .. } => 0x000e,
-        AdminCommand::Metadata { .. } => 0x000f,
-        AdminCommand::MetadataAnswer { .. } => 0x800f,
-        AdminCommand::MetadataUpdate { .. } => 0x0010,
-        AdminCommand::PeerProperties { .. } => 0x0011,
-        AdminCommand::PeerAnswer { .. } => 0x8011,
-        AdminCommand::SaslHandshake { .. } => 0x0012,
-        AdminCommand::MechanismAnswer { .. } => 0x8012,
-        AdminCommand::SaslAuthenticate { .. } => 0x0013,
-        AdminCommand::SaslAnswer { .. } => 0x8013,
-        AdminCommand::Tune { .. } => 0x0014,
-        AdminCommand::TuneAnswer { .. } => 0x8014,
-        AdminCommand::OpenHost { .. } => 0x0015,
-        AdminCommand::HostAnswer { .. } => 0x8015,
-        AdminCommand::Close { .. } => 0x0016,
-        AdminCommand::Heartbeat => 0x0017,
-        AdminCommand::Route { .. } => 0x0018,
-        AdminCommand::RouteAnswer { .. } => 0x8018,
-        AdminCommand::Partitions { .. } => 0x0019,
-        AdminCommand::PartitionsAnswer { .. } => 0x8019,
-        AdminCommand::ConsumerUpdate { .. } => 0x001a,
-        AdminCommand::UpdateAnswer { .. } => 0x801a,
-        AdminCommand::ExchangeVersions { .. } => 0x001b,
-        AdminCommand::VersionsAnswer { .. } => 0x801b,
-        AdminCommand::StreamStats { .. } => 0x001c,
-        AdminCommand::StatsAnswer { .. } => 0x801c,
-        AdminCommand::CreateSuper { .. } => 0x001d,
-        AdminCommand::DeleteSuper { .. } => 0x001e,
-        AdminCommand::Plain { key, .. } => *key,
+impl AdminCommand {
+    /// The key that begins the command's body.
+    pub fn key(&self) -> u16
+        ensures { result ≡ (admin_layout (key_of self.now)).code }
+    {
+        match self {
+            AdminCommand::Create { .. } => 0x000d,
+            AdminCommand::Delete { .. } => 0x000e,
+            AdminCommand::Metadata { .. } => 0x000f,
+            AdminCommand::MetadataAnswer { .. } => 0x800f,
+            AdminCommand::MetadataUpdate { .. } => 0x0010,
+            AdminCommand::PeerProperties { .. } => 0x0011,
+            AdminCommand::PeerAnswer { .. } => 0x8011,
+            AdminCommand::SaslHandshake { .. } => 0x0012,
+            AdminCommand::MechanismAnswer { .. } => 0x8012,
+            AdminCommand::SaslAuthenticate { .. } => 0x0013,
+            AdminCommand::SaslAnswer { .. } => 0x8013,
+            AdminCommand::Tune { .. } => 0x0014,
+            AdminCommand::TuneAnswer { .. } => 0x8014,
+            AdminCommand::OpenHost { .. } => 0x0015,
+            AdminCommand::HostAnswer { .. } => 0x8015,
+            AdminCommand::Close { .. } => 0x0016,
+            AdminCommand::Heartbeat => 0x0017,
+            AdminCommand::Route { .. } => 0x0018,
+            AdminCommand::RouteAnswer { .. } => 0x8018,
+            AdminCommand::Partitions { .. } => 0x0019,
+            AdminCommand::PartitionsAnswer { .. } => 0x8019,
+            AdminCommand::ConsumerUpdate { .. } => 0x001a,
+            AdminCommand::UpdateAnswer { .. } => 0x801a,
+            AdminCommand::ExchangeVersions { .. } => 0x001b,
+            AdminCommand::VersionsAnswer { .. } => 0x801b,
+            AdminCommand::StreamStats { .. } => 0x001c,
+            AdminCommand::StatsAnswer { .. } => 0x801c,
+            AdminCommand::CreateSuper { .. } => 0x001d,
+            AdminCommand::DeleteSuper { .. } => 0x001e,
+            AdminCommand::Plain { key, .. } => *key,
+        }
     }
 }
 
-/// Adds the fields of a command. After an error some of them may stand there.
+/// The fields of a command behind key and version.
 fn put_fields(out: &mut Octets, command: &AdminCommand) -> Result<(), AllocError>
     requires { IsCommand admin_table command.now }
-    ensures { OnOk result (out.new ≡ out.old ++ (admin_layout (key_of command.now)).format.spell (fields_of command.now)) }
+    ensures { Adds result out.old out.new ((admin_layout (key_of command.now)).format.spell (fields_of command.now)) }
 {
     match command {
         AdminCommand::Create {
@@ -136,14 +139,39 @@ fn put_fields(out: &mut Octets, command: &AdminCommand) -> Result<(), AllocError
     }
 }
 
-/// The body of a command that `fits_admin`: its key, the version 1 and its fields.
+/// Key, version and fields.
+fn put_parts(out: &mut Octets, command: &AdminCommand) -> Result<(), AllocError>
+    requires { IsCommand admin_table command.now }
+    ensures { Adds result out.old out.new (body_of admin_table command.now) }
+{
+    put_u16(out, command.key())?;
+    put_u16(out, 1)?;
+    put_fields(out, command)
+}
+
+/// Adds the body of a command for which `fits_admin` holds: key, version and fields. It fails for want of memory alone,
+/// and leaves the bytes as they were.
+pub fn put_admin(out: &mut Octets, command: &AdminCommand) -> Result<(), AllocError>
+    requires { FitsIn admin_table command.now }
+    ensures ok { OnOk result (out.new ≡ out.old ++ body_of admin_table command.now) }
+    ensures err { OnErr result (out.new ≡ out.old) }
+{
+    let before = out.len();
+    match put_parts(out, command) {
+        Ok(()) => Ok(()),
+        Err(refused) => {
+            out.cut(before);
+            Err(refused)
+        }
+    }
+}
+
+/// The body of a command for which `fits_admin` holds. It fails for want of memory alone.
 pub fn encode_admin(alloc: Global, command: &AdminCommand) -> Result<Octets, AllocError>
     requires { FitsIn admin_table command.now }
     ensures { IfOk result (λ body. AdminSpells command.now body) }
 {
-    let mut body = Octets::new(alloc);
-    put_u16(&mut body, code_of(command))?;
-    put_u16(&mut body, 1)?;
-    put_fields(&mut body, command)?;
-    Ok(body)
+    let mut out = Octets::new(alloc);
+    put_admin(&mut out, command)?;
+    Ok(out)
 }

@@ -1,7 +1,7 @@
-//! Which commands have a spelling that a frame can hold.
+//! Which commands have a spelling that a frame can hold, and its length.
 
-ghost use Rattle.std.specs.Prelude.{◌≡◌, ◌↔◌, IsTrue};
-ghost use Rattle.command_fields.specs.Sizes.{Measures};
+ghost use Rattle.std.specs.Prelude.{◌↔◌, IsTrue};
+ghost use Rattle.command_fields.specs.Sizes.{Measures, MeasuresIn};
 ghost use Rattle.command_fields.specs.Tables.{FitsIn};
 ghost use Rattle.command_admin.specs.Commands.{admin_table, admin_layout, key_of, fields_of};
 
@@ -106,17 +106,25 @@ fn fields_size(command: &AdminCommand) -> Option<u64>
     }
 }
 
-/// Whether a command has a spelling in a body of at most 4,294,967,295 bytes, so that `encode_admin` can write it. It has
-/// none exactly where a list has more than 2,147,483,647 items or a blob more than as many bytes, where `active` is
-/// above 1, where a `Plain` has another key than its own, or where the body is too long.
+/// The length of the command's body in bytes, at most 4,294,967,295. `None` exactly where the command has no spelling in a
+/// body that a frame holds: a list of more than 2,147,483,647 items, a blob of more bytes than that, an `active` above 1, a
+/// plain response of another key than its own, or a body that is too long.
+pub fn admin_size(command: &AdminCommand) -> Option<u64>
+    ensures { MeasuresIn admin_table command.now result }
+{
+    if !is_known(command) {
+        return None;
+    }
+    let size = fields_size(command)?;
+    if size > GREATEST_BODY - 4 {
+        return None;
+    }
+    Some(4 + size)
+}
+
+/// Whether the command has a spelling in a body of at most 4,294,967,295 bytes, so that `encode_admin` can write it.
 pub fn fits_admin(command: &AdminCommand) -> bool
     ensures { IsTrue result ↔ FitsIn admin_table command.now }
 {
-    if !is_known(command) {
-        return false;
-    }
-    match fields_size(command) {
-        None => false,
-        Some(size) => size <= GREATEST_BODY - 4,
-    }
+    admin_size(command).is_some()
 }

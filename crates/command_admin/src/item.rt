@@ -44,7 +44,7 @@ impl Item for Broker {
     }
 }
 
-#[tactic(auto, using(crate::proofs::Lengths::lengths))]
+#[tactic(auto, using(command_fields::proofs::SizeLaws::lengths))]
 fn broker_size(reference: u16, host: &Text, port: u32) -> Option<u64>
     ensures { Measures (u16_field then text_field then u32_field) (reference, (host.now, port)) result }
 {
@@ -96,7 +96,7 @@ impl Item for StreamMetadata {
     }
 }
 
-#[tactic(auto, using(crate::proofs::Lengths::lengths))]
+#[tactic(auto, using(command_fields::proofs::SizeLaws::lengths))]
 fn metadata_size(stream: &Text, code: u16, leader: u16, replicas: &Row<u16>) -> Option<u64>
     ensures { Measures (text_field then u16_field then u16_field then list same_fault u16_field) (stream.now, (code, (leader, replicas.now))) result }
 {
@@ -141,7 +141,7 @@ impl Item for KeyVersions {
     }
 }
 
-#[tactic(auto, using(crate::proofs::Lengths::lengths))]
+#[tactic(auto, using(command_fields::proofs::SizeLaws::lengths))]
 fn versions_size(key: u16, least: u16, greatest: u16) -> Option<u64>
     ensures { Measures (u16_field then u16_field then u16_field) (key, (least, greatest)) result }
 {
@@ -178,7 +178,7 @@ impl Item for Statistic {
     }
 }
 
-#[tactic(auto, using(crate::proofs::Lengths::lengths))]
+#[tactic(auto, using(command_fields::proofs::SizeLaws::lengths))]
 fn statistic_size(name: &Text, value: i64) -> Option<u64>
     ensures { Measures (text_field then i64_field) (name.now, value) result }
 {

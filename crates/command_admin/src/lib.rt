@@ -15,7 +15,7 @@ mod size;
 
 pub use command::AdminCommand;
 pub use decode::decode_admin;
-pub use encode::encode_admin;
-pub use fits::fits_admin;
+pub use encode::{encode_admin, put_admin};
+pub use fits::{admin_size, fits_admin};
 pub use item::{Broker, KeyVersions, Statistic, StreamMetadata};
 pub use laws::admin_bodies_have_one_outcome;

@@ -1,10 +1,11 @@
 //! Adds the fields of commands at the end of a body, one function for each layout; its `ensures` names it. After an
-//! error some of the fields may stand there.
+//! error some of the fields may stand behind what was there.
 
-ghost use Rattle.std.specs.Prelude.{◌≡◌, ◌++◌, OnOk, IfSome};
+ghost use Rattle.std.specs.Prelude.{IfSome};
 ghost use Rattle.frame_wire.specs.Fields.{IsBlob, blob_bytes};
 ghost use Rattle.frame_wire.specs.Joins.{◌then◌, or_absent, IsList};
 ghost use Rattle.frame_wire.specs.Formats.{text_field};
+ghost use Rattle.command_fields.specs.Adding.{Adds};
 ghost use Rattle.command_fields.specs.Offsets.{spec_field, IsSpec};
 ghost use Rattle.command_fields.specs.Properties.{property_field};
 ghost use Rattle.command_fields.specs.Tables.{last, u8, u16, u32, text, blob, list_of};
@@ -18,7 +19,7 @@ use std::alloc::AllocError;
 
 fn put_octets(out: &mut Octets, value: &Option<Octets>) -> Result<(), AllocError>
     requires { IsBlob value.now }
-    ensures { OnOk result (out.new ≡ out.old ++ blob_bytes value.now) }
+    ensures { Adds result out.old out.new (blob_bytes value.now) }
 {
     match value {
         None => put_blob(out, None),
@@ -27,35 +28,35 @@ fn put_octets(out: &mut Octets, value: &Option<Octets>) -> Result<(), AllocError
 }
 
 pub fn put_named(out: &mut Octets, corr: u32, words: &Text) -> Result<(), AllocError>
-    ensures { OnOk result (out.new ≡ out.old ++ (u32 then last text).spell (corr, words.now)) }
+    ensures { Adds result out.old out.new ((u32 then last text).spell (corr, words.now)) }
 {
     put_u32(out, corr)?;
     put_text(out, words)
 }
 
 pub fn put_reason(out: &mut Octets, code: u16, words: &Text) -> Result<(), AllocError>
-    ensures { OnOk result (out.new ≡ out.old ++ (u16 then last text).spell (code, words.now)) }
+    ensures { Adds result out.old out.new ((u16 then last text).spell (code, words.now)) }
 {
     put_u16(out, code)?;
     put_text(out, words)
 }
 
 pub fn put_numbers(out: &mut Octets, first: u32, second: u32) -> Result<(), AllocError>
-    ensures { OnOk result (out.new ≡ out.old ++ (u32 then last u32).spell (first, second)) }
+    ensures { Adds result out.old out.new ((u32 then last u32).spell (first, second)) }
 {
     put_u32(out, first)?;
     put_u32(out, second)
 }
 
 pub fn put_plain(out: &mut Octets, corr: u32, code: u16) -> Result<(), AllocError>
-    ensures { OnOk result (out.new ≡ out.old ++ (u32 then last u16).spell (corr, code)) }
+    ensures { Adds result out.old out.new ((u32 then last u16).spell (corr, code)) }
 {
     put_u32(out, corr)?;
     put_u16(out, code)
 }
 
 pub fn put_texts(out: &mut Octets, corr: u32, first: &Text, second: &Text) -> Result<(), AllocError>
-    ensures { OnOk result (out.new ≡ out.old ++ (u32 then text then last text).spell (corr, (first.now, second.now))) }
+    ensures { Adds result out.old out.new ((u32 then text then last text).spell (corr, (first.now, second.now))) }
 {
     put_u32(out, corr)?;
     put_text(out, first)?;
@@ -63,7 +64,7 @@ pub fn put_texts(out: &mut Octets, corr: u32, first: &Text, second: &Text) -> Re
 }
 
 pub fn put_close(out: &mut Octets, corr: u32, code: u16, reason: &Text) -> Result<(), AllocError>
-    ensures { OnOk result (out.new ≡ out.old ++ (u32 then u16 then last text).spell (corr, (code, reason.now))) }
+    ensures { Adds result out.old out.new ((u32 then u16 then last text).spell (corr, (code, reason.now))) }
 {
     put_u32(out, corr)?;
     put_u16(out, code)?;
@@ -71,7 +72,7 @@ pub fn put_close(out: &mut Octets, corr: u32, code: u16, reason: &Text) -> Resul
 }
 
 pub fn put_update(out: &mut Octets, corr: u32, sub: u8, active: u8) -> Result<(), AllocError>
-    ensures { OnOk result (out.new ≡ out.old ++ (u32 then u8 then last flag).spell (corr, (sub, active))) }
+    ensures { Adds result out.old out.new ((u32 then u8 then last flag).spell (corr, (sub, active))) }
 {
     put_u32(out, corr)?;
     put_u8(out, sub)?;
@@ -85,7 +86,7 @@ pub fn put_opaque(
     opaque: &Option<Octets>,
 ) -> Result<(), AllocError>
     requires { IsBlob opaque.now }
-    ensures { OnOk result (out.new ≡ out.old ++ (u32 then text then last blob).spell (corr, (mechanism.now, opaque.now))) }
+    ensures { Adds result out.old out.new ((u32 then text then last blob).spell (corr, (mechanism.now, opaque.now))) }
 {
     put_u32(out, corr)?;
     put_text(out, mechanism)?;
@@ -94,7 +95,7 @@ pub fn put_opaque(
 
 pub fn put_items<T: Item>(out: &mut Octets, corr: u32, items: &Row<T>) -> Result<(), AllocError>
     requires { IsList T.format.Fits items.now }
-    ensures { OnOk result (out.new ≡ out.old ++ (u32 then last (list_of T.format)).spell (corr, items.now)) }
+    ensures { Adds result out.old out.new ((u32 then last (list_of T.format)).spell (corr, items.now)) }
 {
     put_u32(out, corr)?;
     put_list(out, items)
@@ -107,7 +108,7 @@ pub fn put_stream(
     properties: &Row<Property>,
 ) -> Result<(), AllocError>
     requires { IsList property_field.Fits properties.now }
-    ensures { OnOk result (out.new ≡ out.old ++ (u32 then text then last (list_of property_field)).spell (corr, (stream.now, properties.now))) }
+    ensures { Adds result out.old out.new ((u32 then text then last (list_of property_field)).spell (corr, (stream.now, properties.now))) }
 {
     put_u32(out, corr)?;
     put_text(out, stream)?;
@@ -121,7 +122,7 @@ pub fn put_metadata(
     streams: &Row<StreamMetadata>,
 ) -> Result<(), AllocError>
     requires { (IsList broker_field.Fits brokers.now) × (IsList metadata_field.Fits streams.now) }
-    ensures { OnOk result (out.new ≡ out.old ++ (u32 then list_of broker_field then last (list_of metadata_field)).spell (corr, (brokers.now, streams.now))) }
+    ensures { Adds result out.old out.new ((u32 then list_of broker_field then last (list_of metadata_field)).spell (corr, (brokers.now, streams.now))) }
 {
     put_u32(out, corr)?;
     put_list(out, brokers)?;
@@ -139,7 +140,7 @@ pub fn put_super_stream(
     requires partitions { IsList text_field.Fits partitions.now }
     requires keys { IsList text_field.Fits keys.now }
     requires properties { IsList property_field.Fits properties.now }
-    ensures { OnOk result (out.new ≡ out.old ++ (u32 then text then list_of text_field then list_of text_field then last (list_of property_field)).spell (corr, (name.now, (partitions.now, (keys.now, properties.now))))) }
+    ensures { Adds result out.old out.new ((u32 then text then list_of text_field then list_of text_field then last (list_of property_field)).spell (corr, (name.now, (partitions.now, (keys.now, properties.now))))) }
 {
     put_u32(out, corr)?;
     put_text(out, name)?;
@@ -155,7 +156,7 @@ pub fn put_answer<T: Item>(
     items: &Option<Row<T>>,
 ) -> Result<(), AllocError>
     requires { IfSome items.now (IsList T.format.Fits) }
-    ensures { OnOk result (out.new ≡ out.old ++ (u32 then u16 then or_absent (last (list_of T.format))).spell (corr, (code, items.now))) }
+    ensures { Adds result out.old out.new ((u32 then u16 then or_absent (last (list_of T.format))).spell (corr, (code, items.now))) }
 {
     put_u32(out, corr)?;
     put_u16(out, code)?;
@@ -172,7 +173,7 @@ pub fn put_blob_answer(
     content: &Option<Option<Octets>>,
 ) -> Result<(), AllocError>
     requires { IfSome content.now IsBlob }
-    ensures { OnOk result (out.new ≡ out.old ++ (u32 then u16 then or_absent (last blob)).spell (corr, (code, content.now))) }
+    ensures { Adds result out.old out.new ((u32 then u16 then or_absent (last blob)).spell (corr, (code, content.now))) }
 {
     put_u32(out, corr)?;
     put_u16(out, code)?;
@@ -189,7 +190,7 @@ pub fn put_offset_answer(
     content: &Option<OffsetSpec>,
 ) -> Result<(), AllocError>
     requires { IfSome content.now IsSpec }
-    ensures { OnOk result (out.new ≡ out.old ++ (u32 then u16 then or_absent (last spec_field)).spell (corr, (code, content.now))) }
+    ensures { Adds result out.old out.new ((u32 then u16 then or_absent (last spec_field)).spell (corr, (code, content.now))) }
 {
     put_u32(out, corr)?;
     put_u16(out, code)?;

@@ -1,7 +1,7 @@
 //! The lengths of the fields of commands in bytes, one function for each layout; its `ensures` names it. `None` comes
 //! exactly where the fields have no spelling, or one of more than 4,294,967,295 bytes.
 //! The numbers among the parameters change no length; the clause speaks of them.
-#![tactic(auto, using(crate::proofs::Lengths::lengths))]
+#![tactic(auto, using(command_fields::proofs::SizeLaws::lengths))]
 
 ghost use Rattle.std.specs.Prelude.{◌≡◌};
 ghost use Rattle.frame_wire.specs.Formats.{text_field};

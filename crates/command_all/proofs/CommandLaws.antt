@@ -1,9 +1,8 @@
 -- The joined table is lawful, and each half reads its bodies as the whole does.
-use Rattle.std.proofs.Common.{◌≡◌, ℕ, ◌^◌, ◌<◌, Bool, true, false, cond, ltb, List, length, Option, Some, None, Result, Ok, Err, refl, sym, ap, subst, ◌∙◌, inl, inr}
+use Rattle.std.proofs.Common.{◌≡◌, ℕ, ◌^◌, ◌<◌, Bool, true, false, cond, eqb, ltb, List, ◌++◌, length, Option, Some, None, Result, Ok, Err, refl, sym, ap, subst, ◌∙◌, inl, inr}
 use Rattle.std.specs.Int.{w16}
-use Rattle.std.specs.Prelude.{IfOk, IsTrue, ◌↔◌}
+use Rattle.std.specs.Prelude.{OnOk, IsSome, option_map}
 use Rattle.std.specs.declared.alloc.AllocError.{AllocError}
-use Rattle.frame_wire.specs.declared.octets.Octets.{Octets}
 use Rattle.frame_wire.specs.Reading.{Spot, past, number_of}
 use Rattle.frame_wire.specs.Formats.{u16_field}
 use Rattle.frame_wire.specs.Joins.{◌>>=◌, with_fault, within}
@@ -13,7 +12,8 @@ use Rattle.command_fields.specs.declared.fault.DecodeFault.{DecodeFault}
 use Rattle.command_fields.specs.declared.fault.DecodeError.{DecodeError}
 use Rattle.command_fields.specs.declared.fault.DecodeError.TheVariants as errors
 use Rattle.command_fields.specs.Faults.{of_field, Gives, GivesOr, RefusesOr}
-use Rattle.command_fields.specs.Tables.{LawfulEnd, LawfulTable, Table, SpellsIn, WrongIn, FitsIn, start, known_key, behind_key, command_at}
+use Rattle.command_fields.specs.Tables.{LawfulEnd, LawfulTable, Table, SpellsIn, WrongIn, FitsIn, body_of, start, known_key, in_version, known_version, command_at}
+use Rattle.command_fields.specs.Sizes.{MeasuresIn}
 use Rattle.command_fields.proofs.TableLaws.{pinned}
 use Rattle.frame_wire.specs.Laws.{IsBytes}
 use Rattle.command_data.specs.declared.command.DataCommand.{DataCommand}
@@ -27,7 +27,7 @@ use Rattle.command_admin.specs.Commands as other_half
 use Rattle.command_admin.proofs.AdminLaws.{admin_lawful}
 use Rattle.command_all.specs.declared.command.Command.{Command}
 use Rattle.command_all.specs.declared.command.Command.TheVariants.{Data, Admin}
-use Rattle.command_all.specs.Commands.{AnyKey, OfData, OfAdmin, layout_of, key_of, fields_of, command_of, either_key, key_named, command_table, data_key_at}
+use Rattle.command_all.specs.Commands.{AnyKey, OfData, OfAdmin, layout_of, key_of, fields_of, command_of, either_key, key_named, newer_key, command_table, data_key_at}
 
 formats : (k : AnyKey) → LawfulEnd (layout_of k).format
 formats (OfData k) = data_lawful.formats k
@@ -73,19 +73,68 @@ other keys.CreateSuper known = refl
 other keys.DeleteSuper known = refl
 other (keys.Plain n) known = plain_other n known
 
-named : (k : AnyKey) → (layout_of k).Known → key_named (layout_of k).code ≡ Some k
-named (OfData k) known = ap (λ o. either_key o (other_half.key_named (one_half.data_layout k).code)) (data_lawful.named k known)
-named (OfAdmin k) known = ap (λ o. either_key o (other_half.key_named (other_half.admin_layout k).code)) (other k known) ∙ ap (either_key None) (admin_lawful.named k known)
+-- ---- versions
 
-abbrev Right : ℕ → AnyKey → Type 0
-Right n k = (layout_of k).Known × ((layout_of k).code ≡ n)
+data_tests : (one two : Bool) (k : DataKey) (o : Option DataKey) → cond {A = Option AnyKey} one (Some (OfData k)) (cond two (option_map OfData o) None) ≡ option_map OfData (cond one (Some k) (cond two o None))
+data_tests true two k o = refl
+data_tests false true k o = refl
+data_tests false false k o = refl
 
-known_by : (n : ℕ) (k : AnyKey) (d : Option DataKey) (a : Option AdminKey) → one_half.key_named n ≡ d → other_half.key_named n ≡ a → either_key d a ≡ Some k → Right n k
-known_by n k (Some j) a one two e = let same : OfData j ≡ k = cc in subst (Right n) same (data_lawful.known n j one)
-known_by n k None (Some j) one two e = let same : OfAdmin j ≡ k = cc in subst (Right n) same (admin_lawful.known n j two)
-known_by n k None None one two e = absurd cc
+admin_tests : (one two : Bool) (k : AdminKey) → cond {A = Option AnyKey} one (Some (OfAdmin k)) (cond two None None) ≡ option_map OfAdmin (cond one (Some k) (cond two None None))
+admin_tests true two k = refl
+admin_tests false true k = refl
+admin_tests false false k = refl
 
-small : (k : AnyKey) → (layout_of k).Known → (layout_of k).code < 2 ^ 16
+abbrev data_version : DataKey → ℕ → Option DataKey
+data_version first version = in_version one_half.newer_key first version
+
+abbrev admin_version : AdminKey → ℕ → Option AdminKey
+admin_version first version = in_version (λ k. None) first version
+
+-- the versions of a key are those in its half
+data_versions : (first : DataKey) (version : ℕ) → in_version newer_key (OfData first) version ≡ option_map OfData (data_version first version)
+data_versions first version = data_tests (eqb version 1) (eqb version 2) first (one_half.newer_key first)
+
+admin_versions : (first : AdminKey) (version : ℕ) → in_version newer_key (OfAdmin first) version ≡ option_map OfAdmin (admin_version first version)
+admin_versions first version = admin_tests (eqb version 1) (eqb version 2) first
+
+named : (k : AnyKey) → (layout_of k).Known → (first : AnyKey) × (key_named (layout_of k).code ≡ Some first) × (in_version newer_key first (layout_of k).version ≡ Some k)
+named (OfData k) known =
+    let l = one_half.data_layout k in
+    let found = data_lawful.named k known in
+    (OfData found.0, ap (λ o. either_key o (other_half.key_named l.code)) found.1, data_versions found.0 l.version ∙ ap (option_map OfData) found.2)
+named (OfAdmin k) known =
+    let l = other_half.admin_layout k in
+    let found = admin_lawful.named k known in
+    (OfAdmin found.0, ap (λ o. either_key o (other_half.key_named l.code)) (other k known) ∙ ap (either_key None) found.1, admin_versions found.0 l.version ∙ ap (option_map OfAdmin) found.2)
+
+abbrev Right : ℕ → ℕ → AnyKey → Type 0
+Right n version k = (layout_of k).Known × ((layout_of k).code ≡ n) × ((layout_of k).version ≡ version)
+
+data_right : (n version : ℕ) (k : AnyKey) (first : DataKey) → one_half.key_named n ≡ Some first → (o : Option DataKey) → data_version first version ≡ o → option_map OfData o ≡ Some k → Right n version k
+data_right n version k first named (Some j) is e = let same : OfData j ≡ k = cc in subst (Right n version) same (data_lawful.known n version first j named is)
+data_right n version k first named None is e = absurd cc
+
+admin_right : (n version : ℕ) (k : AnyKey) (first : AdminKey) → other_half.key_named n ≡ Some first → (o : Option AdminKey) → admin_version first version ≡ o → option_map OfAdmin o ≡ Some k → Right n version k
+admin_right n version k first named (Some j) is e = let same : OfAdmin j ≡ k = cc in subst (Right n version) same (admin_lawful.known n version first j named is)
+admin_right n version k first named None is e = absurd cc
+
+first_is : (j first : AnyKey) → ◌≡◌ {A = Option AnyKey} (Some j) (Some first) → j ≡ first
+first_is j first e = cc
+
+known_by : (n version : ℕ) (first k : AnyKey) (d : Option DataKey) (a : Option AdminKey) → one_half.key_named n ≡ d → other_half.key_named n ≡ a → either_key d a ≡ Some first → in_version newer_key first version ≡ Some k → Right n version k
+known_by n version first k (Some j) a one two e is =
+    let same = first_is (OfData j) first e in
+    data_right n version k j one (data_version j version) refl (sym (data_versions j version) ∙ ap (λ (x : AnyKey). in_version newer_key x version) same ∙ is)
+known_by n version first k None (Some j) one two e is =
+    let same = first_is (OfAdmin j) first e in
+    admin_right n version k j two (admin_version j version) refl (sym (admin_versions j version) ∙ ap (λ (x : AnyKey). in_version newer_key x version) same ∙ is)
+known_by n version first k None None one two e is = absurd cc
+
+known : (n version : ℕ) (first k : AnyKey) → key_named n ≡ Some first → in_version newer_key first version ≡ Some k → Right n version k
+known n version first k named is = known_by n version first k (one_half.key_named n) (other_half.key_named n) refl refl named is
+
+small : (k : AnyKey) → (layout_of k).Known → ((layout_of k).code < 2 ^ 16) × ((layout_of k).version < 2 ^ 16)
 small (OfData k) known = data_lawful.small k known
 small (OfAdmin k) known = admin_lawful.small k known
 
@@ -114,7 +163,7 @@ apart (OfData k) x = ap data_made (data_lawful.apart k x)
 apart (OfAdmin k) x = ap admin_made (admin_lawful.apart k x)
 
 pub command_lawful : LawfulTable command_table
-command_lawful = record { formats = formats; named = named; known = λ n k e. known_by n k (one_half.key_named n) (other_half.key_named n) refl refl e; small = small; made = made; apart = apart }
+command_lawful = record { formats = formats; named = named; known = known; small = small; made = made; apart = apart }
 
 -- ---- each half
 
@@ -141,40 +190,62 @@ abbrev key_by : List ℕ → Bool → Result (ℕ × Spot) DecodeFault
 key_by body b = with_fault of_field (cond {A = Result (ℕ × Spot) FieldFault} b (Err (fields.Short 0)) (Ok (number_of w16 body, past 2 (start body))))
 
 -- the fields of a key, as the command of a table
-abbrev behind : {C K : Type 0} → Table C K → K → Spot → Result C DecodeFault
-behind table k s = (behind_key (table.layout_of k)).read s >>= λ x. Ok (table.make k x.0.1)
+abbrev fields_behind : {C K : Type 0} → Table C K → Spot → K → Result C DecodeFault
+fields_behind table s k = (table.layout_of k).format.read s >>= λ x. Ok (table.make k x.0)
+
+abbrev by_version : {C K : Type 0} → Table C K → ℕ → K → ℕ × Spot → Result C DecodeFault
+by_version table place first version = known_version place (in_version table.newer first version.0) >>= fields_behind table version.1
+
+abbrev behind : {C K : Type 0} → Table C K → Spot → K → Result C DecodeFault
+behind table s first = (within of_field u16_field).read s >>= by_version table s.at first
 
 abbrev after_key : {C K : Type 0} → Table C K → ℕ × Spot → Result C DecodeFault
-after_key table code = known_key (table.named code.0) >>= λ k. behind table k code.1
+after_key table code = known_key (table.named code.0) >>= behind table code.1
 
-data_behind : (k : DataKey) (s : Spot) (r : Result ((Unit {0} × (one_half.data_layout k).Fields) × Spot) DecodeFault) → (r >>= λ x. Ok (command_of (OfData k) x.0.1)) ≡ as_data (r >>= λ x. Ok (one_half.command_of k x.0.1))
-data_behind k s (Ok x) = refl
-data_behind k s (Err e) = refl
+data_fields : (k : DataKey) (r : Result ((one_half.data_layout k).Fields × Spot) DecodeFault) → (r >>= λ x. Ok (command_of (OfData k) x.0)) ≡ as_data (r >>= λ x. Ok (one_half.command_of k x.0))
+data_fields k (Ok x) = refl
+data_fields k (Err e) = refl
 
-admin_behind : (k : AdminKey) (s : Spot) (r : Result ((Unit {0} × (other_half.admin_layout k).Fields) × Spot) DecodeFault) → (r >>= λ x. Ok (command_of (OfAdmin k) x.0.1)) ≡ as_admin (r >>= λ x. Ok (other_half.command_of k x.0.1))
-admin_behind k s (Ok x) = refl
-admin_behind k s (Err e) = refl
+admin_fields : (k : AdminKey) (r : Result ((other_half.admin_layout k).Fields × Spot) DecodeFault) → (r >>= λ x. Ok (command_of (OfAdmin k) x.0)) ≡ as_admin (r >>= λ x. Ok (other_half.command_of k x.0))
+admin_fields k (Ok x) = refl
+admin_fields k (Err e) = refl
+
+data_known : (place : ℕ) (s : Spot) (o : Option DataKey) → (known_version place (option_map OfData o) >>= fields_behind command_table s) ≡ as_data (known_version place o >>= fields_behind one_half.data_table s)
+data_known place s (Some k) = data_fields k ((one_half.data_layout k).format.read s)
+data_known place s None = refl
+
+admin_known : (place : ℕ) (s : Spot) (o : Option AdminKey) → (known_version place (option_map OfAdmin o) >>= fields_behind command_table s) ≡ as_admin (known_version place o >>= fields_behind other_half.admin_table s)
+admin_known place s (Some k) = admin_fields k ((other_half.admin_layout k).format.read s)
+admin_known place s None = refl
+
+data_behind : (place : ℕ) (first : DataKey) (r : Result (ℕ × Spot) DecodeFault) → (r >>= by_version command_table place (OfData first)) ≡ as_data (r >>= by_version one_half.data_table place first)
+data_behind place first (Ok v) = ap (λ o. known_version place o >>= fields_behind command_table v.1) (data_versions first v.0) ∙ data_known place v.1 (data_version first v.0)
+data_behind place first (Err e) = refl
+
+admin_behind : (place : ℕ) (first : AdminKey) (r : Result (ℕ × Spot) DecodeFault) → (r >>= by_version command_table place (OfAdmin first)) ≡ as_admin (r >>= by_version other_half.admin_table place first)
+admin_behind place first (Ok v) = ap (λ o. known_version place o >>= fields_behind command_table v.1) (admin_versions first v.0) ∙ admin_known place v.1 (admin_version first v.0)
+admin_behind place first (Err e) = refl
 
 -- a body whose key is one of a data command
-data_after : (code : ℕ × Spot) (k : DataKey) (d : Option DataKey) (a : Option AdminKey) → d ≡ Some k → (known_key (either_key d a) >>= λ k. behind command_table k code.1) ≡ as_data (known_key d >>= λ k. behind one_half.data_table k code.1)
-data_after code k (Some j) a e = data_behind j code.1 ((behind_key (one_half.data_layout j)).read code.1)
-data_after code k None a e = absurd cc
+data_after : (s : Spot) (k : DataKey) (d : Option DataKey) (a : Option AdminKey) → d ≡ Some k → (known_key (either_key d a) >>= behind command_table s) ≡ as_data (known_key d >>= behind one_half.data_table s)
+data_after s k (Some j) a e = data_behind s.at j ((within of_field u16_field).read s)
+data_after s k None a e = absurd cc
 
-admin_after : (code : ℕ × Spot) (d : Option DataKey) (a : Option AdminKey) → d ≡ None → (known_key (either_key d a) >>= λ k. behind command_table k code.1) ≡ as_admin (known_key a >>= λ k. behind other_half.admin_table k code.1)
-admin_after code (Some j) a e = absurd cc
-admin_after code None (Some j) e = admin_behind j code.1 ((behind_key (other_half.admin_layout j)).read code.1)
-admin_after code None None e = refl
+admin_after : (s : Spot) (d : Option DataKey) (a : Option AdminKey) → d ≡ None → (known_key (either_key d a) >>= behind command_table s) ≡ as_admin (known_key a >>= behind other_half.admin_table s)
+admin_after s (Some j) a e = absurd cc
+admin_after s None (Some j) e = admin_behind s.at j ((within of_field u16_field).read s)
+admin_after s None None e = refl
 
 abbrev key_if : List ℕ → Bool → Option DataKey
 key_if body b = cond b None (one_half.key_named (number_of w16 body))
 
 is_data_by : (body : List ℕ) (k : DataKey) (b : Bool) → key_if body b ≡ Some k → (key_by body b >>= after_key command_table) ≡ as_data (key_by body b >>= after_key one_half.data_table)
 is_data_by body k true e = absurd cc
-is_data_by body k false e = let n = number_of w16 body in data_after (n, past 2 (start body)) k (one_half.key_named n) (other_half.key_named n) e
+is_data_by body k false e = let n = number_of w16 body in data_after (past 2 (start body)) k (one_half.key_named n) (other_half.key_named n) e
 
 is_admin_by : (body : List ℕ) (b : Bool) → key_if body b ≡ None → (key_by body b >>= after_key command_table) ≡ as_admin (key_by body b >>= after_key other_half.admin_table)
 is_admin_by body true e = refl
-is_admin_by body false e = let n = number_of w16 body in admin_after (n, past 2 (start body)) (one_half.key_named n) (other_half.key_named n) e
+is_admin_by body false e = let n = number_of w16 body in admin_after (past 2 (start body)) (one_half.key_named n) (other_half.key_named n) e
 
 gives_data : (result : Result DataCommand DecodeError) (c : Result Command DecodeError) (read : Result DataCommand DecodeFault) → Gives result read → IsData result c → Gives c (as_data read)
 gives_data (Ok d) c read given is = let same = ap as_data given in subst (λ z. Gives z (as_data read)) (sym is) same
@@ -206,20 +277,23 @@ by_admin body result c fits is only refused same =
 pub fits_known : {c d : Command} → c ≡ d → FitsIn command_table c → FitsIn command_table d
 fits_known is fits = subst (FitsIn command_table) is fits
 
-pub spells_known : {c d : Command} (r : Result Octets AllocError) → c ≡ d → IfOk r (λ body. SpellsIn command_table d body) → IfOk r (λ body. SpellsIn command_table c body)
-spells_known r is all = subst (λ (x : Command). IfOk r (λ body. SpellsIn command_table x body)) (sym is) all
+pub measured_known : {c d : Command} (size : Option ℕ) → c ≡ d → MeasuresIn command_table d size → MeasuresIn command_table c size
+measured_known size is same = subst (λ (x : Command). MeasuresIn command_table x size) (sym is) same
 
-pub same_fits : {c d : Command} (r : Bool) → c ≡ d → IsTrue r ↔ FitsIn command_table d → IsTrue r ↔ FitsIn command_table c
-same_fits r is same = subst (λ (x : Command). IsTrue r ↔ FitsIn command_table x) (sym is) same
+pub data_measured : (d : DataCommand) (size : Option ℕ) → MeasuresIn one_half.data_table d size → MeasuresIn command_table (Data d) size
+data_measured d (Some n) measured = measured
+data_measured d None measured = measured
 
--- what one half spells, the whole does
-pub data_spells : (d : DataCommand) (r : Result Octets AllocError) → IfOk r (λ body. SpellsIn one_half.data_table d body) → IfOk r (λ body. SpellsIn command_table (Data d) body)
-data_spells d (Ok body) all = record { is_command = all.is_command; spelled = all.spelled }
-data_spells d (Err e) all = tt
+pub admin_measured : (d : AdminCommand) (size : Option ℕ) → MeasuresIn other_half.admin_table d size → MeasuresIn command_table (Admin d) size
+admin_measured d (Some n) measured = measured
+admin_measured d None measured = measured
 
-pub admin_spells : (d : AdminCommand) (r : Result Octets AllocError) → IfOk r (λ body. SpellsIn other_half.admin_table d body) → IfOk r (λ body. SpellsIn command_table (Admin d) body)
-admin_spells d (Ok body) all = record { is_command = all.is_command; spelled = all.spelled }
-admin_spells d (Err e) all = tt
+pub body_known : {c d : Command} (r : Result (Unit {0}) AllocError) (old new : List ℕ) → c ≡ d → OnOk r (new ≡ old ++ body_of command_table d) → OnOk r (new ≡ old ++ body_of command_table c)
+body_known r old new is added = subst (λ (x : Command). OnOk r (new ≡ old ++ body_of command_table x)) (sym is) added
+
+pub has_size : (c : Command) (size : Option ℕ) → FitsIn command_table c → MeasuresIn command_table c size → IsSome size
+has_size c (Some n) fits measured = refl
+has_size c None fits measured = absurd (measured fits)
 
 pub data_ok : (r : Result DataCommand DecodeError) (d : DataCommand) → r ≡ Ok d → IsData r (Ok (Data d))
 data_ok r d is = subst (λ z. IsData z (Ok (Data d))) (sym is) refl

@@ -1,10 +1,10 @@
 -- All commands: those of both halves, by their keys.
-use Rattle.std.specs.Prelude.{◌≡◌, ℕ, List, length, Option, Some, None, nat_lt, if◌then◌else◌}
+use Rattle.std.specs.Prelude.{◌≡◌, ℕ, List, length, Option, Some, None, option_map, nat_lt, if◌then◌else◌}
 use Rattle.std.specs.Int.{w16}
 use Rattle.frame_wire.specs.Reading.{number_of}
 use Rattle.frame_wire.specs.Frames as frames
 use Rattle.command_fields.specs.declared.fault.DecodeFault.{DecodeFault}
-use Rattle.command_fields.specs.Tables.{Layout, Table, SpellsIn, WrongIn}
+use Rattle.command_fields.specs.Tables.{Layout, Table, SpellsIn, WrongIn, body_of}
 use Rattle.command_data.specs.declared.key.DataKey.{DataKey}
 use Rattle.command_data.specs.Commands as one_half
 use Rattle.command_admin.specs.declared.key.AdminKey.{AdminKey}
@@ -42,8 +42,13 @@ either_key None None = None
 abbrev pub key_named : ℕ → Option AnyKey
 key_named n = either_key (one_half.key_named n) (other_half.key_named n)
 
+-- the second version of a key is one of its half's
+abbrev pub newer_key : AnyKey → Option AnyKey
+newer_key (OfData k) = option_map OfData (one_half.newer_key k)
+newer_key (OfAdmin k) = None
+
 abbrev pub command_table : Table Command AnyKey
-command_table = record { layout_of = layout_of; key = key_of; fields = fields_of; make = command_of; named = key_named }
+command_table = record { layout_of = layout_of; key = key_of; fields = fields_of; make = command_of; named = key_named; newer = newer_key }
 
 -- a command and its body
 abbrev pub Spells : Command → List ℕ → Type 0
@@ -53,7 +58,11 @@ Spells c body = SpellsIn command_table c body
 abbrev pub Wrong : List ℕ → DecodeFault → Type 0
 Wrong body fault = WrongIn command_table body fault
 
--- the size of a body, and the body
+-- the frame of a command: the size of its body, and the body
+abbrev pub frame_of : Command → List ℕ
+frame_of c = frames.frame (body_of command_table c)
+
+-- the same of a body that the command spells
 pub record IsFrame (c : Command) (bytes : List ℕ) : Type 0 where
   pub body : List ℕ
   pub spells : Spells c body

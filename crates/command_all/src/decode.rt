@@ -41,9 +41,10 @@ fn read_body(alloc: Global, body: &[u8]) -> Result<Command, DecodeError>
     }
 }
 
-/// The command that a body spells, all of the body: two bytes of key, two of version, which is 1, and the fields. Else
-/// the first wrong field with its place in bytes: `UnknownKey` at 0 for a key of no command, `Version` at 2, `Short`,
-/// `Negative`, `Flag` and `OffsetType` at the field's first byte, and `Long` at the first byte behind the last field.
+/// The command that a body spells, all of the body: two bytes of key, two of version, which is 1, or for a delivery 1 or
+/// 2, and the fields. Else the first wrong field with its place in bytes: `UnknownKey` at 0 for a key of no command,
+/// `Version` at 2, `Short`, `Negative`, `Flag` and `OffsetType` at the field's first byte, and `Long` at the first byte
+/// behind the last field.
 pub fn decode_command(alloc: Global, body: &[u8]) -> Result<Command, DecodeError>
     // What is read is spelled so.
     ensures found { IfOk result (λ c. Spells c body.now) }

@@ -87,11 +87,7 @@ pub fn put_store(
 }
 
 /// An id and a list to the body's end.
-pub fn put_items<T: Item>(
-    out: &mut Octets,
-    publisher: u8,
-    items: &Row<T>,
-) -> Result<(), AllocError>
+pub fn put_items<T: Item>(out: &mut Octets, publisher: u8, items: &Row<T>) -> Result<(), AllocError>
     requires { IsList T.format.Fits items.now }
     ensures { Adds result out.old out.new (u8_bytes publisher ++ list_bytes T.format.spell items.now) }
 {

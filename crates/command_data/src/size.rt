@@ -135,12 +135,7 @@ pub fn deliver_size(sub: u8, header: Header, payload: &Octets) -> Option<u64>
     (size <= GREATEST_BODY).then_some(size)
 }
 
-pub fn deliver_two_size(
-    sub: u8,
-    committed: u64,
-    header: Header,
-    payload: &Octets,
-) -> Option<u64>
+pub fn deliver_two_size(sub: u8, committed: u64, header: Header, payload: &Octets) -> Option<u64>
     ensures { Measures (u8 then u64 then last delivered) (sub, (committed, (header, payload.now))) result }
 {
     let size = 9 + delivered_size(header, payload)?;

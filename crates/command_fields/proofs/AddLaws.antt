@@ -1,7 +1,8 @@
 -- Bytes that are added one part after another.
 use Rattle.std.proofs.Common.{◌≡◌, ℕ, ◌≤◌, List, ◌++◌, length, take, Result, Ok, Err, sym, ap, ◌∙◌, append_assoc, arith}
-use Rattle.std.proofs.Math.Seq.{take-append_seam}
+use Rattle.std.proofs.Math.Seq.{take-append_seam, take-length}
 use Rattle.std.proofs.lemmas.List.{length-append, take-take}
+use Rattle.std.specs.Prelude.{OnOk, OnErr}
 use Rattle.std.specs.declared.alloc.AllocError.{AllocError}
 use Rattle.command_fields.specs.Adding.{Adds}
 
@@ -15,3 +16,8 @@ kept old front new e =
 pub adds_more : (r : Result (Unit {0}) AllocError) (old mid new front bytes : List ℕ) → mid ≡ old ++ front → Adds r mid new bytes → Adds r old new (front ++ bytes)
 adds_more (Ok u) old mid new front bytes is added = added ∙ ap (λ (m : List ℕ). m ++ bytes) is ∙ append_assoc old front bytes
 adds_more (Err e) old mid new front bytes is added = kept old front new (ap (λ (m : List ℕ). take (length m) new) (sym is) ∙ added ∙ is)
+
+-- a part that is added whole or not at all
+pub adds_whole : (r : Result (Unit {0}) AllocError) (old new bytes : List ℕ) → OnOk r (new ≡ old ++ bytes) → OnErr r (new ≡ old) → Adds r old new bytes
+adds_whole (Ok u) old new bytes ok err = ok
+adds_whole (Err e) old new bytes ok err = ap (take (length old)) err ∙ take-length old

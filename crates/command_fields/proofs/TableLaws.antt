@@ -19,7 +19,7 @@ use Rattle.command_fields.specs.declared.fault.DecodeFault.TheVariants.{UnknownK
 use Rattle.command_fields.specs.declared.fault.DecodeError.{DecodeError}
 use Rattle.command_fields.specs.declared.fault.DecodeError.TheVariants as errors
 use Rattle.command_fields.specs.Faults.{of_field, FailsWith, GivesAt, Gives, GivesOr, IfFault}
-use Rattle.std.specs.Prelude.{IfOk}
+use Rattle.std.specs.Prelude.{IfOk, IsErrAnd}
 use Rattle.command_fields.specs.Tables.{last, Table, SpellsIn, version_at, start, WrongIn, NoKey, OtherKey, NoVersion, OtherVersion, Behind, known_key, in_version, known_version, command_at, LawfulEnd, LawfulTable, u8, u16, u32, u64, text, blob, list_of, OneOutcomeIn, fields_at}
 
 -- ---- the last field
@@ -448,13 +448,13 @@ first_fails : {C K : Type 0} (table : Table C K) (body : List ℕ) (first : K) (
 first_fails {C} {K} table body first s fault here alone e =
     behind_code table body first s here
     ∙ elim (bind_err ((within of_field u16_field).read s) (one_version s) fault e) as (λ h. after_key table s first ≡ Err fault) [
-        | inl a ↦ after_err ((within of_field u16_field).read s) (after_version table s.at first) fault a
-        | inr a ↦
-            let b = not_one (eqb a.0.0 1) a.0.1 (Version s.at) fault a.2 in
-            let none : in_version table.newer first a.0.0 ≡ None = none_named (eqb a.0.0 1) (eqb a.0.0 2) first (table.newer first) b.0 alone in
-            after_ok ((within of_field u16_field).read s) (after_version table s.at first) a.0 a.1
-            ∙ after_err (known_version s.at (in_version table.newer first a.0.0)) (fields_behind table a.0.1) fault (ap (known_version s.at) none ∙ ap (λ z. Err z) (sym b.1))
-      ]
+      | inl a ↦ after_err ((within of_field u16_field).read s) (after_version table s.at first) fault a
+      | inr a ↦
+          let b = not_one (eqb a.0.0 1) a.0.1 (Version s.at) fault a.2 in
+          let none : in_version table.newer first a.0.0 ≡ None = none_named (eqb a.0.0 1) (eqb a.0.0 2) first (table.newer first) b.0 alone in
+          after_ok ((within of_field u16_field).read s) (after_version table s.at first) a.0 a.1
+          ∙ after_err (known_version s.at (in_version table.newer first a.0.0)) (fields_behind table a.0.1) fault (ap (known_version s.at) none ∙ ap (λ z. Err z) (sym b.1))
+    ]
 
 pub first_refuses : {C K : Type 0} (table : Table C K) (body : List ℕ) (first : K) (s : Spot) (error : DecodeError) → AtKey table body first s → table.newer first ≡ None → FailsWith error (version_at s) → FailsWith error (command_at table body)
 first_refuses table body first s (errors.Fault fault) here alone given = first_fails table body first s fault here alone given
@@ -464,6 +464,11 @@ either_version : {K : Type 0} (one two : Bool) (version : ℕ) (first k : K) (o 
 either_version true two version first k o is_first is_second e = inl (eqb-true version 1 is_first, cc)
 either_version false true version first k o is_first is_second e = inr (eqb-true version 2 is_second, e)
 either_version false false version first k o is_first is_second e = absurd cc
+
+-- an error that a call passes on
+pub passes_on : {C : Type 0} (result : Result C DecodeError) (error : DecodeError) (read : Result C DecodeFault) → IsErrAnd result (λ e. e ≡ error) → FailsWith error read → Gives result read
+passes_on (Ok c) error read is fails = absurd is
+passes_on (Err e) error read is fails = subst (λ z. FailsWith z read) (sym is) fails
 
 -- The key of a code by its version: version 1 is the key itself, and version 2 the newer one.
 pub by_version : {K : Type 0} (newer : K → Option K) (first k : K) (version : ℕ) → in_version newer first version ≡ Some k → ((version ≡ 1) × (first ≡ k)) ⊎ ((version ≡ 2) × (newer first ≡ Some k))

@@ -1,6 +1,6 @@
 -- Tables of commands. A body is a key in two bytes, a version in two bytes, and the fields of the layout of that key in
 -- that version.
-use Rattle.std.specs.Prelude.{◌≡◌, ◌<◌, ◌≤◌, ◌^◌, ◌+◌, ◌⊎◌, ℕ, List, [], ◌++◌, length, Option, Some, None, Result, Ok, Err, ◌==◌, if◌then◌else◌}
+use Rattle.std.specs.Prelude.{◌≡◌, ◌<◌, ◌≤◌, ◌^◌, ◌⊎◌, ℕ, List, [], ◌++◌, length, Option, Some, None, Result, Ok, Err, ◌==◌, if◌then◌else◌}
 use Rattle.frame_wire.specs.Fields.{u16_bytes}
 use Rattle.frame_wire.specs.Reading.{Spot}
 use Rattle.frame_wire.specs.Formats.{Format, Spelled, u8_field, u16_field, u32_field, u64_field, text_field, blob_field}

@@ -1,6 +1,7 @@
 use Rattle.std.proofs.Common.{◌≡◌, sym, subst}
 use Rattle.std.proofs.lemmas.List.{append-nil}
 use Rattle.command_fields.specs.Tables.{IsCommand}
+use Rattle.command_fields.proofs.AddLaws.{adds_whole}
 use Rattle.command_admin.specs.declared.command.AdminCommand.{AdminCommand}
 use Rattle.command_admin.specs.Commands.{admin_table}
 use Rattle.command_admin.proofs.encode.put_fields.Goals as goal
@@ -85,7 +86,7 @@ pub returns-in-PeerAnswer : goal.returns-in-PeerAnswer
 returns-in-PeerAnswer c = rw c.in-PeerAnswer.is c.put_answer.ensures
 
 pub returns-in-SaslHandshake : goal.returns-in-SaslHandshake
-returns-in-SaslHandshake c = rw c.in-SaslHandshake.is c.put_u32.ensures.ok
+returns-in-SaslHandshake c = rw c.in-SaslHandshake.is (adds_whole c.put_u32.result c.args.out.now c.put_u32.new.out _ c.put_u32.ensures.ok c.put_u32.ensures.err)
 
 pub returns-in-MechanismAnswer : goal.returns-in-MechanismAnswer
 returns-in-MechanismAnswer c = rw c.in-MechanismAnswer.is c.put_answer-in-MechanismAnswer.ensures

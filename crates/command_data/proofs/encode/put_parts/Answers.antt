@@ -1,4 +1,4 @@
-use Rattle.std.proofs.Common.{◌≡◌, ℕ, ◌++◌, subst, sym}
+use Rattle.std.proofs.Common.{◌≡◌, ℕ, ◌++◌, subst}
 use Rattle.frame_wire.specs.Fields.{u16_bytes}
 use Rattle.command_fields.proofs.AddLaws.{adds_more}
 use Rattle.command_data.proofs.encode.put_parts.Goals as goal
