@@ -1,2 +1,4 @@
 pub mod DataLaws
 pub mod Arms
+pub mod StartLaws
+pub mod HeadLaws

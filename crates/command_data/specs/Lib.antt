@@ -1,2 +1,4 @@
 pub mod Items
 pub mod Commands
+pub mod Starts
+pub mod Deliveries

@@ -4,6 +4,7 @@
 
 mod command;
 mod decode;
+mod deliver;
 mod encode;
 mod fits;
 mod item;
@@ -15,8 +16,9 @@ mod size;
 
 pub use command::DataCommand;
 pub use decode::decode_data;
+pub use deliver::put_delivery_head;
 pub use encode::{encode_data, put_data};
 pub use fits::{data_size, fits_data};
 pub use item::{Refusal, Tagged};
 pub use key::{DataKey, key_of as data_key_of};
-pub use laws::data_bodies_have_one_outcome;
+pub use laws::{data_bodies_have_one_outcome, starts_go_on, starts_on_literals};

@@ -99,27 +99,7 @@ fn a_byte_more_is_refused_at_the_end(rt: HostRuntime) -> Result<(), Fail> {
 /// What is wrong, the body in hexadecimal, and the fault.
 type Case = (&'static str, &'static str, DecodeFault);
 
-const REFUSED: [Case; 23] = [
-    (
-        "version 0",
-        "0009000003000a",
-        DecodeFault::Version { place: 2 },
-    ),
-    (
-        "version 2",
-        "0009000203000a",
-        DecodeFault::Version { place: 2 },
-    ),
-    (
-        "version 257",
-        "0009010103000a",
-        DecodeFault::Version { place: 2 },
-    ),
-    (
-        "a wrong version with nothing behind it",
-        "00070002",
-        DecodeFault::Version { place: 2 },
-    ),
+const REFUSED: [Case; 22] = [
     ("key 0", "00000001", DecodeFault::UnknownKey { place: 0 }),
     (
         "a command of another kind",
@@ -192,6 +172,21 @@ const REFUSED: [Case; 23] = [
         DecodeFault::Long { place: 54 },
     ),
     (
+        "a wrong header behind a committed offset",
+        "000800020300000000000000aa4001000200000003000000000000000400000000000000050000000000000006000000070000000200000009000000006162",
+        DecodeFault::Flag { place: 13 },
+    ),
+    (
+        "a payload one byte short behind a committed offset",
+        "000800020300000000000000aa5001000200000003000000000000000400000000000000050000000000000006000000070000000300000009000000006162",
+        DecodeFault::Short { place: 61 },
+    ),
+    (
+        "a payload one byte long behind a committed offset",
+        "000800020300000000000000aa5001000200000003000000000000000400000000000000050000000000000006000000070000000100000009000000006162",
+        DecodeFault::Long { place: 62 },
+    ),
+    (
         "a reference of -2 bytes",
         "000100010000000702fffe000173",
         DecodeFault::Negative { place: 9 },
@@ -218,6 +213,28 @@ fn the_first_wrong_field_is_told(rt: HostRuntime) -> Result<(), Fail> {
     for (wrong, text, fault) in REFUSED {
         let body = hex::decode(rt.alloc(), text)?;
         is_refused(&rt, rt.alloc(), body.as_slice(), fault, wrong);
+    }
+    Ok(())
+}
+
+/// Bodies of a version that their key has not.
+const OTHER_VERSIONS: [&str; 8] = [
+    "00080003",
+    "00080000",
+    "00080100",
+    "0009000205000a",
+    "0009000003000a",
+    "0009010103000a",
+    "00070002",
+    "8001000200000007000a",
+];
+
+#[test]
+fn other_versions_are_refused(rt: HostRuntime) -> Result<(), Fail> {
+    for text in OTHER_VERSIONS {
+        let body = hex::decode(rt.alloc(), text)?;
+        let fault = DecodeFault::Version { place: 2 };
+        is_refused(&rt, rt.alloc(), body.as_slice(), fault, text);
     }
     Ok(())
 }

@@ -140,6 +140,15 @@ pub fn is_command_of(key: u16, command: &DataCommand) -> bool {
             && *sub == 3
             && *header == HEADER
             && payload.as_slice() == b"ab".as_slice(),
+        DataCommand::Deliver2 {
+            sub,
+            committed,
+            header,
+            payload,
+        } => key == 0x0008
+            && (*sub, *committed) == (3, 0xaa)
+            && *header == HEADER
+            && payload.as_slice() == b"ab".as_slice(),
         DataCommand::Credit { sub, credit } => key == 0x0009 && (*sub, *credit) == (3, 10),
         DataCommand::CreditFault { code, sub } => key == 0x8009 && (*code, *sub) == (4, 3),
         DataCommand::StoreOffset {

@@ -16,7 +16,7 @@ use Rattle.command_fields.proofs.TableLaws.{table_apart}
 use Rattle.command_data.specs.declared.item.Tagged.{Tagged}
 use Rattle.command_data.specs.declared.item.Refusal.{Refusal}
 use Rattle.command_data.specs.declared.command.DataCommand.{DataCommand}
-use Rattle.command_data.specs.declared.command.DataCommand.TheVariants.{DeclarePublisher, Publish, PublishConfirm, PublishError, QueryPublisherSequence, SequenceAnswer, DeletePublisher, Subscribe, Deliver, Credit, CreditFault, StoreOffset, QueryOffset, OffsetAnswer, Unsubscribe, Plain}
+use Rattle.command_data.specs.declared.command.DataCommand.TheVariants.{DeclarePublisher, Publish, PublishConfirm, PublishError, QueryPublisherSequence, SequenceAnswer, DeletePublisher, Subscribe, Deliver, Deliver2, Credit, CreditFault, StoreOffset, QueryOffset, OffsetAnswer, Unsubscribe, Plain}
 use Rattle.command_data.specs.Items.{tagged_field, refusal_field}
 use Rattle.command_data.specs.Commands.{data_table}
 use Rattle.command_data.proofs.DataLaws.{data_lawful}
@@ -103,6 +103,7 @@ serve_cases connection stream publishers (SequenceAnswer corr code content) serv
 serve_cases connection stream publishers (DeletePublisher corr publisher) served e = absurd cc
 serve_cases connection stream publishers (Subscribe corr sub name spec credit properties) served e = absurd cc
 serve_cases connection stream publishers (Deliver sub header payload) served e = absurd cc
+serve_cases connection stream publishers (Deliver2 sub committed header payload) served e = absurd cc
 serve_cases connection stream publishers (CreditFault code sub) served e = absurd cc
 serve_cases connection stream publishers (StoreOffset reference name offset) served e = absurd cc
 serve_cases connection stream publishers (QueryOffset corr reference name) served e = absurd cc

@@ -16,7 +16,7 @@ use Rattle.command_fields.specs.Tables.{IsCommand, body_of}
 use Rattle.command_fields.proofs.TableLaws.{table_apart}
 use Rattle.command_data.specs.declared.item.Tagged.{Tagged}
 use Rattle.command_data.specs.declared.command.DataCommand.{DataCommand}
-use Rattle.command_data.specs.declared.command.DataCommand.TheVariants.{DeclarePublisher, Publish, PublishConfirm, PublishError, QueryPublisherSequence, SequenceAnswer, DeletePublisher, Subscribe, Deliver, Credit, CreditFault, StoreOffset, QueryOffset, OffsetAnswer, Unsubscribe, Plain}
+use Rattle.command_data.specs.declared.command.DataCommand.TheVariants.{DeclarePublisher, Publish, PublishConfirm, PublishError, QueryPublisherSequence, SequenceAnswer, DeletePublisher, Subscribe, Deliver, Deliver2, Credit, CreditFault, StoreOffset, QueryOffset, OffsetAnswer, Unsubscribe, Plain}
 use Rattle.command_data.specs.Commands.{data_table, DataSpells}
 use Rattle.command_data.proofs.DataLaws.{data_lawful}
 use Rattle.frame_commands.specs.Given.{CommandsOf}
@@ -235,6 +235,7 @@ answers_publish machine old id items (SequenceAnswer corr code content) new a = 
 answers_publish machine old id items (DeletePublisher corr publisher) new a = absurd a
 answers_publish machine old id items (Subscribe corr sub name spec credit properties) new a = absurd a
 answers_publish machine old id items (Deliver sub header payload) new a = absurd a
+answers_publish machine old id items (Deliver2 sub committed header payload) new a = absurd a
 answers_publish machine old id items (Credit sub credit) new a = absurd a
 answers_publish machine old id items (CreditFault code sub) new a = absurd a
 answers_publish machine old id items (StoreOffset reference name offset) new a = absurd a
