@@ -3,6 +3,7 @@
 ghost use Rattle.command_fields.specs.Tables.{OneOutcomeIn};
 ghost use Rattle.command_all.specs.Commands.{command_table};
 ghost use Rattle.command_all.specs.Reading.{SomeReading, OneReading, ReadingsJoin, EndsStay};
+ghost use Rattle.command_all.specs.Fitting.{IdsFit, NamesFit, AskedFit};
 ghost use Rattle.frame_wire.specs.Laws.{IsBytes};
 ghost use Rattle.std.specs.Prelude.{ℕ, List};
 
@@ -20,4 +21,13 @@ pub fn bytes_have_one_reading()
     ensures one { OneReading }
     ensures join { ReadingsJoin }
     ensures stay { EndsStay }
+{}
+
+/// Commands that fit a frame whatever their items are, so that who writes an answer knows that it `fits`: confirms and
+/// errors of as many ids as a frame holds (536,870,910 and 429,496,728), answers and questions of up to 65,535 names, and
+/// what is told of the streams that one frame of at most 1,048,576 bytes asked for. It does nothing.
+pub fn answers_fit()
+    ensures ids { IdsFit }
+    ensures names { NamesFit }
+    ensures asked { AskedFit }
 {}

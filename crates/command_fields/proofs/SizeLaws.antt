@@ -24,7 +24,7 @@ pub is_null : (text : Option (List ℕ)) → None ≡ text → MeasuresText text
 is_null None is = (tt, sym (u16_length 65535), omega arith)
 is_null (Some all) is = absurd cc
 
-text_short : (text : Option (List ℕ)) → IsText text → length (text_bytes text) ≤ 32769
+pub text_short : (text : Option (List ℕ)) → IsText text → length (text_bytes text) ≤ 32769
 text_short (Some all) fits = omega (arith, fits, length-append (u16_bytes (length all)) all, u16_length (length all))
 text_short None fits = omega (arith, u16_length 65535)
 
@@ -44,7 +44,7 @@ Counted f xs i total = AllByRecursion f.Fits (take i xs) × (total ≡ 4 + lengt
 count_length : (n : ℕ) → length (count_bytes n) ≡ 4
 count_length n = u32_length n
 
-list_length : {A : Type 0} (f : Format A FieldFault) (xs : List A) → length (list_bytes f.spell xs) ≡ 4 + length (flat_map f.spell xs)
+pub list_length : {A : Type 0} (f : Format A FieldFault) (xs : List A) → length (list_bytes f.spell xs) ≡ 4 + length (flat_map f.spell xs)
 list_length f xs = omega (arith, length-append (count_bytes (length xs)) (flat_map f.spell xs), count_length (length xs))
 
 -- an item that is none of a list, or too long for one
@@ -68,7 +68,7 @@ all_items {A} f xs i total few done counted =
     let c = subst (λ (ys : List A). AllByRecursion f.Fits ys × (total ≡ 4 + length (flat_map f.spell ys)) × (total ≤ 4294967295)) whole counted in
     ((omega arith, c.0), omega (arith, c.1, list_length f xs), c.2)
 
-body_length : {C K : Type 0} (table : Table C K) (c : C) → length (body_of table c) ≡ 4 + length ((table.layout_of (table.key c)).format.spell (table.fields c))
+pub body_length : {C K : Type 0} (table : Table C K) (c : C) → length (body_of table c) ≡ 4 + length ((table.layout_of (table.key c)).format.spell (table.fields c))
 body_length table c =
     let l = table.layout_of (table.key c) in
     omega (arith, length-append (u16_bytes l.code) (u16_bytes l.version ++ l.format.spell (table.fields c)), length-append (u16_bytes l.version) (l.format.spell (table.fields c)), u16_length l.code, u16_length l.version)
