@@ -174,7 +174,7 @@ sum_first : {A : Type 0} (m : A → ℕ) (p : A → Bool) (f : A → A) (n : ℕ
 sum_first m p f n [] more = omega arith
 sum_first m p f n (x ∷ xs) more = grind (arith, common_steps, sum_first m p f n xs more, more x)
 
-sum_filter : {A : Type 0} (m : A → ℕ) (q : A → Bool) (xs : List A) → sum_by m (filter q xs) ≤ sum_by m xs
+pub sum_filter : {A : Type 0} (m : A → ℕ) (q : A → Bool) (xs : List A) → sum_by m (filter q xs) ≤ sum_by m xs
 sum_filter m q [] = omega arith
 sum_filter m q (x ∷ xs) = grind (arith, common_steps, sum_filter m q xs)
 
@@ -225,7 +225,7 @@ told_name : (stream : ℕ) (name : Option (List ℕ)) (g : Seating) (o : Option 
 told_name stream name g None = refl
 told_name stream name g (Some p) = refl
 
-none_counted : {A : Type 0} (p : A → Bool) (xs : List A) → list_any p xs ≡ false → count_by p xs ≡ 0
+pub none_counted : {A : Type 0} (p : A → Bool) (xs : List A) → list_any p xs ≡ false → count_by p xs ≡ 0
 none_counted p [] h = refl
 none_counted p (x ∷ xs) h = grind (arith, common_steps, none_counted p xs)
 

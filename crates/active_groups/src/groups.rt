@@ -148,7 +148,8 @@ impl Groups {
     /// A consumer leaves its group, in any state; the group goes with its last consumer. Nothing changes where the
     /// consumer is in no group.
     pub fn leave(&mut self, consumer: ConsumerId)
-        ensures { GroupStep self.old (Leaves consumer) self.new }
+        ensures step { GroupStep self.old (Leaves consumer) self.new }
+        ensures gone { state_of self.new consumer ≡ None }
     {
         if let Some(place) = group_with(self.groups.as_slice(), consumer) {
             leave_at(&mut self.groups, place, consumer);
