@@ -6,7 +6,8 @@ use Rattle.std.proofs.lemmas.Bool.{cases_lt}
 use borrow.Rule.Slice.PartMut.{put_mid}
 use Rattle.std.specs.declared.alloc.Global.{Global}
 use Rattle.byte_pieces.specs.Over.{over}
-use Rattle.byte_pieces.specs.Joined.{items_of, joined, all_bytes}
+use Rattle.byte_pieces.specs.Joined.{items_of, joined, all_bytes, AllFull}
+use Rattle.byte_pieces.proofs.Full.{full_set, joined_more, take_plus}
 use Rattle.byte_pieces.specs.Laid.{lay}
 use Rattle.byte_pieces.proofs.Laying.{lay_append, lay_mid, length_lay}
 
@@ -16,10 +17,6 @@ put_flat a k xs ys = ap (λ (l : List ℕ). take a xs ++ (ys ++ l)) (drop-drop k
 
 pub put_end : (a : ℕ) (xs ys : List ℕ) → put_mid a (length xs - a) xs ys ≡ take a xs ++ ys
 put_end a xs ys = put_flat a (length xs - a) xs ys ∙ ap (λ (l : List ℕ). take a xs ++ (ys ++ l)) (drop_all (a + (length xs - a)) xs (omega arith)) ∙ ap (λ (l : List ℕ). take a xs ++ l) (append-nil ys)
-
--- one piece more
-pub joined_more : (xs more : List (Vec ℕ Global)) (v : Vec ℕ Global) → more ≡ xs ++ v ∷ [] → joined more ≡ joined xs ++ v.items
-joined_more xs more v is = ap joined is ∙ flat_map-append items_of xs (v ∷ []) ∙ ap (λ (l : List ℕ). joined xs ++ l) (append-nil v.items)
 
 drop_count : (bytes : List ℕ) (n d : ℕ) → d ≡ min (length bytes) n → drop d bytes ≡ drop n bytes
 drop_count bytes n d is = ap (λ (k : ℕ). drop k bytes) (let e : d ≡ min n (length bytes) = omega arith in e) ∙ drop_min n bytes
@@ -52,6 +49,7 @@ pub record LayLoop (now start : List (Vec ℕ Global)) (place : ℕ) (bytes : Li
   pub rest : drop i now ≡ drop i start
   pub to_skip : skip ≡ place - length (joined (take i start))
   pub so_far : count ≡ min (length bytes) (length (joined (take i start)) - place)
+  pub full : AllFull start → AllFull now
 
 pub lay_step : (now start : List (Vec ℕ Global)) (place : ℕ) (bytes : List ℕ) (i skip count : ℕ) (v w : Vec ℕ Global) (n after : ℕ)
     → LayLoop now start place bytes i skip count
@@ -80,6 +78,7 @@ lay_step now start place bytes i skip count v w n after loop lt at laid put skip
       rest = drop-set-lt (i + 1) now i w (omega arith) ∙ sym found.1;
       to_skip = omega (arith, loop.to_skip, size, skipped, same_size);
       so_far = omega (arith, loop.to_skip, loop.so_far, size, put, length-drop count bytes);
+      full = λ whole. full_set now i v w (loop.full whole) lt at same_size;
     }
 
 -- all pieces, and the last one
@@ -111,12 +110,6 @@ pub record ReadLoop (pieces : List (Vec ℕ Global)) (place : ℕ) (buf : List �
   pub read : take count buf ≡ take count (drop place (joined (take i pieces)))
   pub to_skip : skip ≡ place - length (joined (take i pieces))
   pub so_far : count ≡ min (length buf) (length (joined (take i pieces)) - place)
-
-take_plus : (xs ys : List ℕ) (n : ℕ) → take (length xs + n) (xs ++ ys) ≡ xs ++ take n ys
-take_plus [] ys n = ap (λ (k : ℕ). take k ys) (let e : length (let none : List ℕ = [] in none) + n ≡ n = omega arith in e)
-take_plus (x ∷ xs) ys n =
-    let e : length (x ∷ xs) + n ≡ suc (length xs + n) = omega arith in
-    ap (λ (k : ℕ). take k (x ∷ (xs ++ ys))) e ∙ ap (λ (l : List ℕ). x ∷ l) (take_plus xs ys n)
 
 -- a buffer of which a front was filled from J, and then the rest from p
 pub read_parts : (J p buf new tail : List ℕ) (place skip count n : ℕ)

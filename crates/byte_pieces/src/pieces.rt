@@ -1,6 +1,6 @@
-ghost use Rattle.std.specs.Prelude.{◌≡◌, ◌+◌, ◌-◌, ◌≤◌, ◌<◌, ◌^◌, ◌++◌, [], List, ℕ, length, take, drop, min, IfOk, OnOk, OnErr};
+ghost use Rattle.std.specs.Prelude.{◌≡◌, ◌+◌, ◌-◌, ◌≤◌, ◌<◌, ◌^◌, ◌*◌, ◌++◌, [], List, ℕ, length, take, drop, min, IfOk, OnOk, OnErr};
 ghost use Rattle.byte_pieces.specs.Over.{over};
-ghost use Rattle.byte_pieces.specs.Joined.{joined, all_bytes};
+ghost use Rattle.byte_pieces.specs.Joined.{joined, all_bytes, AllFull, InPieces};
 ghost use Rattle.byte_pieces.specs.Laid.{lay};
 
 use std::alloc::{AllocError, Global};
@@ -27,6 +27,7 @@ fn lay_part(piece: &mut [u8], skip: usize, bytes: &[u8]) -> usize
 fn lay_pieces(pieces: &mut [Vec<u8>], place: usize, bytes: &[u8]) -> usize
     ensures count { result ≡ min (length bytes.now) (length (joined pieces.old) - place) }
     ensures laid { joined pieces.new ≡ lay (joined pieces.old) place bytes.now }
+    ensures full { AllFull pieces.old → AllFull pieces.new }
 {
     let mut skip = place;
     let mut done = 0;
@@ -54,6 +55,7 @@ fn read_part(piece: &[u8], skip: usize, buf: &mut [u8]) -> usize
 fn make_room(alloc: Global, full: &mut Vec<Vec<u8>>, last: &mut Vec<u8>) -> Result<(), AllocError>
     ensures room { OnOk result (length last.new.items < 1048576) }
     ensures same { all_bytes full.new.items last.new.items ≡ all_bytes full.old.items last.old.items }
+    ensures pieces { InPieces full.old.items last.old.items → InPieces full.new.items last.new.items }
 {
     if last.len() < PIECE {
         return Ok(());
@@ -76,6 +78,7 @@ fn append_some(
     requires { 0 < length bytes.now }
     ensures ok { IfOk result (λ n. (0 < n) × (n ≤ length bytes.now) × (all_bytes full.new.items last.new.items ≡ all_bytes full.old.items last.old.items ++ take n bytes.now)) }
     ensures err { OnErr result (all_bytes full.new.items last.new.items ≡ all_bytes full.old.items last.old.items) }
+    ensures pieces { InPieces full.old.items last.old.items → InPieces full.new.items last.new.items }
 {
     make_room(alloc, full, last)?;
     let count = bytes.len().min(PIECE - last.len());
@@ -92,6 +95,7 @@ fn append_bytes(
 ) -> Result<(), AllocError>
     ensures ok { OnOk result (all_bytes full.new.items last.new.items ≡ all_bytes full.old.items last.old.items ++ bytes.now) }
     ensures err { OnErr result ((n : ℕ) × (n ≤ length bytes.now) × (all_bytes full.new.items last.new.items ≡ all_bytes full.old.items last.old.items ++ take n bytes.now)) }
+    ensures pieces { InPieces full.old.items last.old.items → InPieces full.new.items last.new.items }
 {
     let mut done = 0;
     while done < bytes.len() {
@@ -116,7 +120,8 @@ fn bytes_before(full: &[Vec<u8>]) -> usize
 // Keeps the first bytes alone.
 fn cut_bytes(full: &mut Vec<Vec<u8>>, last: &mut Vec<u8>, size: usize)
     requires { length (all_bytes full.old.items last.old.items) < 2 ^ 64 }
-    ensures { all_bytes full.new.items last.new.items ≡ take size (all_bytes full.old.items last.old.items) }
+    ensures cut { all_bytes full.new.items last.new.items ≡ take size (all_bytes full.old.items last.old.items) }
+    ensures pieces { InPieces full.old.items last.old.items → InPieces full.new.items last.new.items }
 {
     let mut before = bytes_before(full);
     while size < before {
@@ -158,7 +163,8 @@ fn read_bytes(full: &[Vec<u8>], last: &[u8], place: usize, buf: &mut [u8])
 fn lay_bytes(full: &mut Vec<Vec<u8>>, last: &mut Vec<u8>, place: usize, bytes: &[u8])
     requires small { length (all_bytes full.old.items last.old.items) < 2 ^ 64 }
     requires within { place + length bytes.now ≤ length (all_bytes full.old.items last.old.items) }
-    ensures { all_bytes full.new.items last.new.items ≡ over (all_bytes full.old.items last.old.items) place bytes.now }
+    ensures laid { all_bytes full.new.items last.new.items ≡ over (all_bytes full.old.items last.old.items) place bytes.now }
+    ensures pieces { InPieces full.old.items last.old.items → InPieces full.new.items last.new.items }
 {
     let done = lay_pieces(full, place, bytes);
     let skip = place.saturating_sub(bytes_before(full));
@@ -180,6 +186,7 @@ fn put_bytes(
     requires now_small { len < 2 ^ 63 }
     ensures ok { OnOk result (all_bytes full.new.items last.new.items ≡ over (all_bytes full.old.items last.old.items) place bytes.now) }
     ensures err { OnErr result (all_bytes full.new.items last.new.items ≡ all_bytes full.old.items last.old.items) }
+    ensures pieces { InPieces full.old.items last.old.items → InPieces full.new.items last.new.items }
 {
     let inside = (len - place).min(bytes.len());
     if let Err(fault) = append_bytes(alloc, full, last, &bytes[inside..]) {
@@ -201,13 +208,13 @@ pub struct Pieces {
 
 impl Model for Pieces {
     ghost use Rattle.std.specs.Prelude.{◌≡◌, ◌<◌, ◌^◌, List, ℕ, length};
-    ghost use Rattle.byte_pieces.specs.Joined.{all_bytes};
+    ghost use Rattle.byte_pieces.specs.Joined.{all_bytes, InPieces};
 
     ghost Value = { List ℕ };
 
     ghost view = { λ p. all_bytes p.full.items p.last.items };
 
-    ghost invariant = { λ p. (p.len ≡ length (all_bytes p.full.items p.last.items)) × (p.len < 2 ^ 63) };
+    ghost invariant = { λ p. (p.len ≡ length (all_bytes p.full.items p.last.items)) × (p.len < 2 ^ 63) × InPieces p.full.items p.last.items };
 }
 
 impl Pieces {
@@ -228,6 +235,14 @@ impl Pieces {
         ensures small { result < 2 ^ 63 }
     {
         self.len
+    }
+
+    /// The number of pieces. Each but the last one has 1 MiB, and that one has no more.
+    pub fn pieces(&self) -> usize
+        ensures full { (result - 1) * 1048576 ≤ length self.now }
+        ensures enough { length self.now ≤ result * 1048576 }
+    {
+        self.full.len() + 1
     }
 
     /// Fills `buf` with the bytes from a place on.

@@ -12,4 +12,5 @@ loop-done-preserved c =
     let rest = take_rest bytes c.loop-done.done in (
       omega (arith, ap (length {A = ℕ}) rest, length-drop {A = ℕ}),
       added_more (all_bytes c.args.full.now.items c.args.last.now.items) now (all_bytes c.append_some.new.full.items c.append_some.new.last.items) bytes c.loop-done.done c.in_ok-count.count c.loop-done.invariant.1 (ok.2 ∙ ap (λ (l : List ℕ). now ++ take c.in_ok-count.count l) rest),
+      (λ pieces. c.in_ok-count.ensures.pieces (c.loop-done.invariant.2 pieces)),
     )

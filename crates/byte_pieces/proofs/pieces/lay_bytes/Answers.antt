@@ -19,8 +19,8 @@ bytes_before-requires c =
     ap joined (c.deref.ensures.value ∙ whole) ∙ c.lay_pieces-done.ensures.laid ∙ ap (λ (l : List (Vec ℕ Global)). lay (joined l) c.args.place c.args.bytes.now) e.value in
     omega (arith, ap (length {A = ℕ}) same, length_lay (joined full) c.args.place c.args.bytes.now, length-append (joined full) c.args.last.now.items, c.requires.small)
 
-pub returns : goal.returns
-returns c =
+pub returns-clause-laid : goal.returns-clause-laid
+returns-clause-laid c =
     let full = c.args.full.now.items in
     let last = c.args.last.now.items in
     let bytes = c.args.bytes.now in
