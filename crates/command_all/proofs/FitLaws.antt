@@ -154,19 +154,20 @@ asked_fit corr asked body answer broker told spells short small is same all =
     let whole : length (flat_map text_bytes asked) ≤ 1048576 = omega (arith, asked_length, short, length-append (u32_bytes corr) (list_bytes text_bytes asked), list_length text_field asked) in
     let few : length asked ≤ 524288 = omega (arith, whole, texts_some asked) in
     let brokers = list_bytes broker_field.spell (broker ∷ []) in
-    let streams = list_bytes metadata_field.spell told in
-    ((tt, (small, ((omega arith, ((is.0, (is.1, is.2)), tt)), (omega (arith, same_number told, number, few), each_told told texts each)))),
-     omega (
-       arith,
-       body_length command_table (Admin (MetadataAnswer answer (broker ∷ []) told)),
-       length-append (u32_bytes answer) (brokers ++ streams),
-       length-append brokers streams,
-       u32_length answer,
-       broker_long broker is,
-       list_length metadata_field told,
-       all_told told each,
-       size,
-       number,
-       whole,
-       few,
-     ))
+    let streams = list_bytes metadata_field.spell told in (
+      (tt, (small, ((omega arith, ((is.0, (is.1, is.2)), tt)), (omega (arith, same_number told, number, few), each_told told texts each)))),
+      omega (
+        arith,
+        body_length command_table (Admin (MetadataAnswer answer (broker ∷ []) told)),
+        length-append (u32_bytes answer) (brokers ++ streams),
+        length-append brokers streams,
+        u32_length answer,
+        broker_long broker is,
+        list_length metadata_field told,
+        all_told told each,
+        size,
+        number,
+        whole,
+        few,
+      ),
+    )
