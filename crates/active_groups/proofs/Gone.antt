@@ -46,5 +46,5 @@ unseated consumer (g ∷ gs) none =
 pub gone : (consumer : ConsumerId) (gs : List Seating) → AreGroups gs → state_of (left consumer gs) consumer ≡ None
 gone consumer gs are =
     let out : sum_by (places_of consumer) (left consumer gs) ≡ 0 =
-        omega (arith, sum_filter (places_of consumer) has_seats (at_first (sits consumer) (without consumer) gs), removed consumer gs (are.once consumer)) in
+    omega (arith, sum_filter (places_of consumer) has_seats (at_first (sits consumer) (without consumer) gs), removed consumer gs (are.once consumer)) in
     ap (λ (o : Option Seating). state_at o consumer) (unseated consumer (left consumer gs) out)
