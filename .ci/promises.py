@@ -17,17 +17,19 @@ CALL = re.compile(r"`(\w+)` `((?:\w+::)*\w+)`: ((?:`\w+`(?:, )?)+)")
 def head_of(text, name):
     """The text from `fn name` to the brace of its body or the semicolon of a trait's method, each time it stands there."""
     for match in re.finditer(r"\bfn %s\b[<(]" % re.escape(name), text):
-        depth, end = 0, match.end()
+        depth, brackets, end = 0, 0, match.end()
         for end in range(match.start(), len(text)):
             sign = text[end]
-            if sign == "{":
+            if sign in "[]":
+                brackets += 1 if sign == "[" else -1
+            elif sign == "{":
                 before = text[match.start():end]
                 if depth == 0 and re.search(r"(ensures|requires)\s*\w*\s*$", before) is None:
                     break
                 depth += 1
             elif sign == "}":
                 depth -= 1
-            elif sign == ";" and depth == 0:
+            elif sign == ";" and depth == 0 and brackets == 0:
                 break
         yield text[match.start():end]
 
