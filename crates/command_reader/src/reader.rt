@@ -64,6 +64,7 @@ impl CommandReader {
 
     /// Takes the next piece of the bytes. Once a frame that no command spells was given, or where a size above the greatest
     /// stands in front, it keeps nothing more, and takes no memory. Want of memory leaves the reader as it was.
+    #[inline]
     pub fn feed(&mut self, piece: &[u8]) -> Result<(), AllocError>
         ensures taken { OnOk result (Takes self.old piece.now self.new) }
         ensures ended { IsEnded self.old → result ≡ Ok tt }
@@ -77,6 +78,7 @@ impl CommandReader {
 
     /// Gives what stands next. Memory is wanted for a command alone, and want of it leaves the reader as it was: the next
     /// call reads the same frame again.
+    #[inline]
     pub fn next(&mut self) -> Result<Next, AllocError>
         ensures given { IfOk result (λ answer. Gives self.old answer self.new) }
         ensures stays { IfSome self.old.unspelt (λ fault. result ≡ Ok (Unspelt fault)) }

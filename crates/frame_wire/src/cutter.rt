@@ -27,6 +27,7 @@ pub enum Front<'a> {
     TooLarge { size: u32 },
 }
 
+#[inline]
 fn look(rest: &[u8], max: u32) -> Front<'_>
     ensures { Looks max rest.now result }
 {
@@ -80,6 +81,7 @@ impl Cutter {
 
     /// Takes the next piece of the stream, and gives up the last body. Where a size above the greatest stands at the front
     /// it keeps nothing more, and takes no memory. Want of memory leaves it as it was.
+    #[inline]
     pub fn feed(&mut self, piece: &[u8]) -> Result<(), AllocError>
         ensures fed { OnOk result (¬ IsStuck self.old → self.new ≡ fed self.old piece.now) }
         ensures stuck { IsStuck self.old → (result ≡ Ok tt) × (self.new ≡ self.old) }
@@ -95,6 +97,7 @@ impl Cutter {
 
     /// Gives up the last body. The bytes before those that are left go once they are as many, so that each byte is moved
     /// at most once.
+    #[inline]
     fn give_up_taken(&mut self)
         ensures { self.new ≡ fed self.old [] }
     {
@@ -106,6 +109,7 @@ impl Cutter {
     }
 
     /// What stands at the front: the next cut takes it off. It takes no memory and copies nothing.
+    #[inline]
     pub fn front(&self) -> Front<'_>
         ensures { Looks self.now.max self.now.rest result }
     {
@@ -113,6 +117,7 @@ impl Cutter {
     }
 
     /// Cuts the next frame off. It takes no memory and copies nothing.
+    #[inline]
     pub fn next(&mut self) -> Cut
         ensures { Cuts self.old result self.new }
     {
@@ -129,6 +134,7 @@ impl Cutter {
     }
 
     /// The body of the last frame, until the next feed.
+    #[inline]
     pub fn body(&self) -> &[u8]
         ensures { result.now ≡ self.now.body }
     {

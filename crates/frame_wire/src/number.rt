@@ -28,6 +28,7 @@ pub(crate) fn first_u16(bytes: &[u8]) -> Option<u16>
     Some(value)
 }
 
+#[inline]
 #[tactic(auto, unfolding(crate::specs::Fields::u32_bytes))]
 pub(crate) fn first_u32(bytes: &[u8]) -> Option<u32>
     ensures stands { StandsFirst u32_bytes 4 bytes.now result }
