@@ -1,0 +1,106 @@
+-- What may happen to a stream.
+use Rattle.std.specs.Prelude.{◌≡◌, ℕ, ◌<◌, ◌≤◌, Bool, true, false, not, ◌&&◌, ◌==◌, nat_lt, List, [], ◌∷◌, ◌++◌, map, Option, Some, None, Result, Ok, Err}
+use Rattle.std.specs.List.{filter, AllByRecursion}
+use Rattle.chunk_format.specs.declared.entry.Entry.{Entry}
+use Rattle.chunk_format.specs.declared.chunk.Chunk.{Chunk}
+use Rattle.command_data.specs.declared.item.Tagged.{Tagged}
+use Rattle.stream_terms.specs.declared.terms.Pass.{Pass}
+use Rattle.stream_terms.specs.declared.terms.Given.{Given}
+use Rattle.stream_terms.specs.declared.terms.Waits.{Waits}
+use Rattle.stream_terms.specs.declared.terms.Taken.{Taken}
+use Rattle.stream_terms.specs.declared.terms.DeclareFault.{DeclareFault}
+use Rattle.stream_terms.specs.declared.terms.OfferFault.{OfferFault}
+use Rattle.stream_terms.specs.declared.terms.Confirm.{Confirm}
+use Rattle.chunk_format.specs.Logs.{end_of}
+use Rattle.stream_terms.specs.Views.{StreamView, name_of, CausedBy, Known}
+
+-- a declaration, an offer, the handing out of a session's confirms, and what the stream does by itself: more chunks, another epoch
+pub data StreamAct : Type 0 where
+  Declared : ℕ → Option (List ℕ) → Result Pass DeclareFault → StreamAct
+  Offered : Pass → List Tagged → Result Taken OfferFault → StreamAct
+  Handed : ℕ → List Waits → StreamAct
+  Moved : List Chunk → StreamAct
+
+abbrev pub item_id : Tagged → ℕ
+item_id t = t.id
+
+abbrev pub item_entry : Tagged → Entry
+item_entry t = t.entry
+
+-- The next pass of the epoch that runs. No pass before it has its serial.
+pub record DeclaresPass (old : StreamView) (session : ℕ) (name : Option (List ℕ)) (p : Pass) (new : StreamView) : Type 0 where
+  pub of_stream : p.stream ≡ old.number
+  pub of_session : p.session ≡ session
+  pub running : old.running ≡ Some p.epoch
+  pub fresh : AllByRecursion (λ (g : Given). g.pass.serial < p.serial) old.passes
+  pub new_is : new ≡ record old { passes = old.passes ++ record { pass = p; name = name_of name } ∷ [] }
+
+abbrev pub DeclareStep : StreamView → ℕ → Option (List ℕ) → Result Pass DeclareFault → StreamView → Type 0
+DeclareStep old session name (Ok p) new = DeclaresPass old session name p new
+DeclareStep old session name (Err _) new = new ≡ old
+
+-- behind those that wait, or ready at once where the list reaches its end already
+abbrev pub put_by : Bool → Waits → StreamView → StreamView
+put_by true w v = record v { waiting = v.waiting ++ w ∷ [] }
+put_by false w v = record v { ready = v.ready ++ w ∷ [] }
+
+abbrev pub put_wait : Waits → StreamView → StreamView
+put_wait w v = put_by (nat_lt (end_of v.chunks) w.end) w v
+
+-- The range that was taken begins at or past the end of the list and of all that waits. What ends within the list waits no more: such an offer
+-- added nothing, and its ids are not above the greatest.
+pub record OfferTaken (old : StreamView) (p : Pass) (items : List Tagged) (t : Taken) (new : StreamView) : Type 0 where
+  pub wait : Waits
+  pub passed : wait.given.pass ≡ p
+  pub known : Known old.passes wait
+  pub running : old.running ≡ Some p.epoch
+  pub ids : wait.ids ≡ map item_id items
+  pub entries : wait.entries ≡ map item_entry items
+  pub end_is : wait.end ≡ t.end
+  pub past_list : end_of old.chunks ≤ wait.from
+  pub past_waiting : AllByRecursion (λ (w : Waits). w.end ≤ wait.from) old.waiting
+  pub at_once : wait.end ≤ end_of old.chunks → CausedBy wait.given.name wait old.chunks
+  pub new_is : new ≡ put_wait wait old
+
+abbrev pub OfferStep : StreamView → Pass → List Tagged → Result Taken OfferFault → StreamView → Type 0
+OfferStep old p items (Ok t) new = OfferTaken old p items t new
+OfferStep old p items (Err _) new = new ≡ old
+
+abbrev pub is_of : ℕ → Waits → Bool
+is_of session w = w.given.pass.session == session
+
+abbrev pub is_other : ℕ → Waits → Bool
+is_other session w = not (is_of session w)
+
+-- exactly the ready ones of the session, in the order of their offers
+pub record HandStep (old : StreamView) (session : ℕ) (out : List Waits) (new : StreamView) : Type 0 where
+  pub out_is : out ≡ filter (is_of session) old.ready
+  pub new_is : new ≡ record old { ready = filter (is_other session) old.ready }
+
+abbrev pub is_reached : List Chunk → Waits → Bool
+is_reached chunks w = not (nat_lt (end_of chunks) w.end)
+
+abbrev pub of_epoch : Option ℕ → Waits → Bool
+of_epoch None w = false
+of_epoch (Some epoch) w = w.given.pass.epoch == epoch
+
+abbrev pub still_waits : List Chunk → Option ℕ → Waits → Bool
+still_waits chunks running w = nat_lt (end_of chunks) w.end && of_epoch running w
+
+-- The list goes on; those that it now reaches are ready, and of the others those of the running epoch go on waiting.
+pub record MoveStep (old : StreamView) (more : List Chunk) (new : StreamView) : Type 0 where
+  pub number : new.number ≡ old.number
+  pub chunks : new.chunks ≡ old.chunks ++ more
+  pub passes : new.passes ≡ old.passes
+  pub ready : new.ready ≡ old.ready ++ filter (is_reached new.chunks) old.waiting
+  pub waiting : new.waiting ≡ filter (still_waits new.chunks new.running) old.waiting
+
+abbrev pub StreamStep : StreamView → StreamAct → StreamView → Type 0
+StreamStep old (Declared session name r) new = DeclareStep old session name r new
+StreamStep old (Offered p items r) new = OfferStep old p items r new
+StreamStep old (Handed session out) new = HandStep old session out new
+StreamStep old (Moved more) new = MoveStep old more new
+
+-- what is handed out, as the session sees it
+abbrev pub confirm_of : Waits → Confirm
+confirm_of w = record { stream = w.given.pass.stream; serial = w.given.pass.serial; end = w.end; ids = w.ids }
