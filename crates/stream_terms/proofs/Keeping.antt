@@ -11,7 +11,7 @@ use Rattle.stream_terms.specs.declared.terms.Given.{Given}
 use Rattle.stream_terms.specs.declared.terms.Waits.{Waits}
 use Rattle.chunk_format.specs.Logs.{last_epoch, Linked, IsLog, end_of, is_within}
 use Rattle.stream_terms.specs.Views.{StreamView, name_of, is_name, covers, times, Caused, CausedBy, Future, StreamHolds, Known, Counted}
-use Rattle.stream_terms.specs.Steps.{DeclaresPass, put_by, OfferTaken, is_of, is_other, HandStep, is_reached, still_waits, of_epoch, MoveStep}
+use Rattle.stream_terms.specs.Steps.{queued, OffsetTaken, DeclaresPass, put_by, OfferTaken, is_of, is_other, HandStep, is_reached, still_waits, of_epoch, MoveStep}
 use Rattle.chunk_format.proofs.LinkLaws.{linked_behind}
 use Rattle.chunk_format.proofs.NameLaws.{each_join, each_map}
 use Rattle.chunk_format.proofs.BareLaws.{tally_join}
@@ -180,10 +180,26 @@ offered_by false v spent w e h given past waiting at_once =
       apart = λ at. let more = apart_more v spent w at h past waiting in let join = tally_join (covers at) v.ready (w ∷ []) in omega (arith, more, join);
     }
 
+-- nothing is said of what is queued
+requeued : (v : StreamView) (spent : List Waits) (took : List Chunk) → StreamHolds v spent → StreamHolds (queued took v) spent
+requeued v spent took h = record {
+  log = h.log;
+  of_stream = h.of_stream;
+  waiting_known = h.waiting_known;
+  ready_known = h.ready_known;
+  waiting_past = h.waiting_past;
+  ready_caused = h.ready_caused;
+  spent_caused = h.spent_caused;
+  apart = h.apart;
+}
+
+pub stored_holds : (old new : StreamView) (spent : List Waits) (name : Option (List ℕ)) (offset : ℕ) (t : Taken) → StreamHolds old spent → OffsetTaken old name offset t new → StreamHolds new spent
+stored_holds old new spent name offset t h s = subst (λ (v : StreamView). StreamHolds v spent) (sym s.new_is) (requeued old spent _ h)
+
 pub offered_holds : (old new : StreamView) (spent : List Waits) (p : Pass) (items : List Tagged) (t : Taken) → StreamHolds old spent → OfferTaken old p items t new → StreamHolds new spent
 offered_holds old new spent p items t h s =
     subst (λ (v : StreamView). StreamHolds v spent) (sym s.new_is)
-    (offered_by (nat_lt (end_of old.chunks) s.wait.end) old spent s.wait refl h s.known s.past_list s.past_waiting s.at_once)
+    (offered_by (nat_lt (end_of old.chunks) s.wait.end) (queued s.took old) spent s.wait refl (requeued old spent s.took h) s.known s.past_list s.past_waiting s.at_once)
 
 -- ---- commits
 

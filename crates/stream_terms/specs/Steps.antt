@@ -1,8 +1,13 @@
 -- What may happen to a stream.
-use Rattle.std.specs.Prelude.{◌≡◌, ℕ, ◌<◌, ◌≤◌, Bool, true, false, not, ◌&&◌, ◌==◌, nat_lt, List, [], ◌∷◌, ◌++◌, map, Option, Some, None, Result, Ok, Err}
+use Rattle.std.specs.Prelude.{◌≡◌, ℕ, ℤ, ◌<◌, ◌≤◌, Bool, true, false, not, ◌&&◌, ◌==◌, nat_lt, List, [], ◌∷◌, ◌++◌, map, length, Option, Some, None, Result, Ok, Err}
 use Rattle.std.specs.List.{filter, AllByRecursion}
 use Rattle.chunk_format.specs.declared.entry.Entry.{Entry}
+use Rattle.chunk_format.specs.declared.entry.Entry.TheVariants.{Simple}
+use Rattle.chunk_format.specs.declared.chunk.ChunkKind.{ChunkKind}
+use Rattle.chunk_format.specs.declared.chunk.ChunkKind.TheVariants.{User, Delta, Snapshot}
 use Rattle.chunk_format.specs.declared.chunk.Chunk.{Chunk}
+use Rattle.chunk_format.specs.Logs.{end_of}
+use Rattle.chunk_format.specs.Tags.{DeltaOffset, delta_bytes}
 use Rattle.command_data.specs.declared.item.Tagged.{Tagged}
 use Rattle.stream_terms.specs.declared.terms.Pass.{Pass}
 use Rattle.stream_terms.specs.declared.terms.Given.{Given}
@@ -11,13 +16,13 @@ use Rattle.stream_terms.specs.declared.terms.Taken.{Taken}
 use Rattle.stream_terms.specs.declared.terms.DeclareFault.{DeclareFault}
 use Rattle.stream_terms.specs.declared.terms.OfferFault.{OfferFault}
 use Rattle.stream_terms.specs.declared.terms.Confirm.{Confirm}
-use Rattle.chunk_format.specs.Logs.{end_of}
-use Rattle.stream_terms.specs.Views.{StreamView, name_of, CausedBy, Known}
+use Rattle.stream_terms.specs.Views.{StreamView, sequence, name_of, CausedBy, Known}
 
--- a declaration, an offer, the handing out of a session's confirms, and what the stream does by itself: more chunks, another epoch
+-- a declaration, an offer, an offset to be stored, the handing out of a session's confirms, and what the stream does by itself: more chunks, another epoch
 pub data StreamAct : Type 0 where
   Declared : ℕ → Option (List ℕ) → Result Pass DeclareFault → StreamAct
   Offered : Pass → List Tagged → Result Taken OfferFault → StreamAct
+  StoredOffset : Option (List ℕ) → ℕ → Result Taken OfferFault → StreamAct
   Handed : ℕ → List Waits → StreamAct
   Moved : List Chunk → StreamAct
 
@@ -47,24 +52,67 @@ put_by false w v = record v { ready = v.ready ++ w ∷ [] }
 abbrev pub put_wait : Waits → StreamView → StreamView
 put_wait w v = put_by (nat_lt (end_of v.chunks) w.end) w v
 
--- The range that was taken begins at or past the end of the list and of all that waits. What ends within the list waits no more: such an offer
--- added nothing, and its ids are not above the greatest.
+abbrev pub queued : List Chunk → StreamView → StreamView
+queued took v = record v { queue = v.queue ++ took }
+
+abbrev pub no_delta : ChunkKind → Bool
+no_delta User = true
+no_delta Delta = false
+no_delta Snapshot = true
+
+-- The range that was taken begins where all that was taken before ends, which is at or past the end of the list and of all that waits. What ends
+-- within the list waits no more: such an offer added nothing, and its ids are not above the greatest.
 pub record OfferTaken (old : StreamView) (p : Pass) (items : List Tagged) (t : Taken) (new : StreamView) : Type 0 where
   pub wait : Waits
+  pub took : List Chunk
   pub passed : wait.given.pass ≡ p
   pub known : Known old.passes wait
   pub running : old.running ≡ Some p.epoch
   pub ids : wait.ids ≡ map item_id items
   pub entries : wait.entries ≡ map item_entry items
+  pub begins : wait.from ≡ end_of (sequence old)
+  pub ends : wait.end ≡ end_of (sequence (queued took old))
   pub end_is : wait.end ≡ t.end
+  pub few : t.accepted ≤ length items
+  pub kinds : AllByRecursion (λ (c : Chunk). no_delta c.kind ≡ true) took
   pub past_list : end_of old.chunks ≤ wait.from
   pub past_waiting : AllByRecursion (λ (w : Waits). w.end ≤ wait.from) old.waiting
   pub at_once : wait.end ≤ end_of old.chunks → CausedBy wait.given.name wait old.chunks
-  pub new_is : new ≡ put_wait wait old
+  pub new_is : new ≡ put_wait wait (queued took old)
 
 abbrev pub OfferStep : StreamView → Pass → List Tagged → Result Taken OfferFault → StreamView → Type 0
 OfferStep old p items (Ok t) new = OfferTaken old p items t new
 OfferStep old p items (Err _) new = new ≡ old
+
+-- the chunk that stores an offset for a name
+abbrev pub offset_chunk : ℕ → ℤ → ℕ → List ℕ → ℕ → Chunk
+offset_chunk epoch stamp first name offset = record {
+  kind = Delta;
+  stamp = stamp;
+  epoch = epoch;
+  first = first;
+  entries = Simple (delta_bytes (DeltaOffset name offset)) ∷ [];
+  trailer = [];
+}
+
+-- Exactly its chunk of the running epoch is queued, behind all that was taken, and at most snapshots behind it.
+pub record OffsetTaken (old : StreamView) (name : Option (List ℕ)) (offset : ℕ) (t : Taken) (new : StreamView) : Type 0 where
+  pub bytes : List ℕ
+  pub name_is : name ≡ Some bytes
+  pub some : 1 ≤ length bytes
+  pub few : length bytes ≤ 255
+  pub epoch : ℕ
+  pub running : old.running ≡ Some epoch
+  pub stamp : ℤ
+  pub snapshots : List Chunk
+  pub kinds : AllByRecursion (λ (c : Chunk). c.kind ≡ Snapshot) snapshots
+  pub new_is : new ≡ queued (offset_chunk epoch stamp (end_of (sequence old)) bytes offset ∷ snapshots) old
+  pub end_is : t.end ≡ end_of (sequence new)
+  pub accepted : t.accepted ≡ 1
+
+abbrev pub OffsetStep : StreamView → Option (List ℕ) → ℕ → Result Taken OfferFault → StreamView → Type 0
+OffsetStep old name offset (Ok t) new = OffsetTaken old name offset t new
+OffsetStep old name offset (Err _) new = new ≡ old
 
 abbrev pub is_of : ℕ → Waits → Bool
 is_of session w = w.given.pass.session == session
@@ -87,10 +135,12 @@ of_epoch (Some epoch) w = w.given.pass.epoch == epoch
 abbrev pub still_waits : List Chunk → Option ℕ → Waits → Bool
 still_waits chunks running w = nat_lt (end_of chunks) w.end && of_epoch running w
 
--- The list goes on; those that it now reaches are ready, and of the others those of the running epoch go on waiting.
+-- The list goes on, and while one epoch runs it takes what was queued, in order. Those that it now reaches are ready, and of the others those of the
+-- running epoch go on waiting.
 pub record MoveStep (old : StreamView) (more : List Chunk) (new : StreamView) : Type 0 where
   pub number : new.number ≡ old.number
   pub chunks : new.chunks ≡ old.chunks ++ more
+  pub in_order : (epoch : ℕ) → old.running ≡ Some epoch → new.running ≡ Some epoch → old.queue ≡ more ++ new.queue
   pub passes : new.passes ≡ old.passes
   pub ready : new.ready ≡ old.ready ++ filter (is_reached new.chunks) old.waiting
   pub waiting : new.waiting ≡ filter (still_waits new.chunks new.running) old.waiting
@@ -98,6 +148,7 @@ pub record MoveStep (old : StreamView) (more : List Chunk) (new : StreamView) : 
 abbrev pub StreamStep : StreamView → StreamAct → StreamView → Type 0
 StreamStep old (Declared session name r) new = DeclareStep old session name r new
 StreamStep old (Offered p items r) new = OfferStep old p items r new
+StreamStep old (StoredOffset name offset r) new = OffsetStep old name offset r new
 StreamStep old (Handed session out) new = HandStep old session out new
 StreamStep old (Moved more) new = MoveStep old more new
 

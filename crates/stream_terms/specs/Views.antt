@@ -1,5 +1,5 @@
 -- A stream, as those that use it see it.
-use Rattle.std.specs.Prelude.{◌≡◌, ℕ, ◌+◌, ◌<◌, ◌≤◌, Bool, true, false, not, ◌&&◌, List, [], ◌∷◌, length, Option, Some, None}
+use Rattle.std.specs.Prelude.{◌≡◌, ℕ, ◌+◌, ◌<◌, ◌≤◌, Bool, true, false, not, ◌&&◌, List, [], ◌∷◌, ◌++◌, length, Option, Some, None}
 use Rattle.std.specs.List.{flat_map, AllByRecursion, Contains}
 use Rattle.chunk_format.specs.declared.entry.Entry.{Entry}
 use Rattle.chunk_format.specs.declared.chunk.Chunk.{Chunk}
@@ -12,6 +12,8 @@ pub record StreamView : Type 0 where
   pub number : ℕ
   -- the committed chunks
   pub chunks : List Chunk
+  -- those behind them that were taken, and that the list doesn't hold yet
+  pub queue : List Chunk
   -- the epoch that runs with an open leader
   pub running : Option ℕ
   -- the passes that were given, with the names for which they were
@@ -20,6 +22,10 @@ pub record StreamView : Type 0 where
   pub waiting : List Waits
   -- those that it reaches, and that are to be confirmed
   pub ready : List Waits
+
+-- the list, and what was taken behind it
+abbrev pub sequence : StreamView → List Chunk
+sequence v = v.chunks ++ v.queue
 
 -- a text as a name: null and empty are none
 abbrev pub name_of : Option (List ℕ) → List ℕ

@@ -9,12 +9,13 @@ ghost use Rattle.stream_terms.specs.declared.terms.Pass.{Pass};
 ghost use Rattle.stream_terms.specs.declared.terms.Taken.{Taken};
 ghost use Rattle.stream_terms.specs.declared.terms.Waits.{Waits};
 ghost use Rattle.stream_terms.specs.Views.{StreamView, StreamHolds, Caused, Counted};
-ghost use Rattle.stream_terms.specs.Steps.{StreamStep, Declared, Offered, Handed, Moved};
+ghost use Rattle.stream_terms.specs.Steps.{StreamStep, Declared, Offered, StoredOffset, Handed, Moved};
 
-/// A declaration and an offer that were taken keep what holds of a stream, whatever was handed out before. It does nothing.
+/// A declaration, an offer and an offset that were taken keep what holds of a stream, whatever was handed out before. It does nothing.
 pub fn declarations_and_offers_keep_what_holds()
     ensures declared { (old new : StreamView) (spent : List Waits) (session : ℕ) (name : Option (List ℕ)) (pass : Pass) → StreamHolds old spent → StreamStep old (Declared session name (Ok pass)) new → StreamHolds new spent }
     ensures offered { (old new : StreamView) (spent : List Waits) (pass : Pass) (items : List Tagged) (taken : Taken) → StreamHolds old spent → StreamStep old (Offered pass items (Ok taken)) new → StreamHolds new spent }
+    ensures stored { (old new : StreamView) (spent : List Waits) (name : Option (List ℕ)) (offset : ℕ) (taken : Taken) → StreamHolds old spent → StreamStep old (StoredOffset name offset (Ok taken)) new → StreamHolds new spent }
 {}
 
 /// Each confirm that is handed out has its cause, and what holds goes on to hold with it among those handed out. It does
