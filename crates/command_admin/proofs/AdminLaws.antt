@@ -1,20 +1,15 @@
 -- The administrative commands make a lawful table.
-use Rattle.std.proofs.Common.{◌≡◌, ℕ, ◌<◌, ◌^◌, cond, eqb, List, length, Option, Some, None, refl, sym, subst, ◌∙◌, arith, inl, inr, length-append}
-use Rattle.std.specs.List.{flat_map}
-use Rattle.frame_wire.specs.Fields.{u16_bytes, u32_bytes, u64_bytes, i64_bytes, blob_bytes}
-use Rattle.frame_wire.specs.Joins.{list_bytes, end_of}
+use Rattle.std.proofs.Common.{◌≡◌, ℕ, ◌<◌, ◌^◌, cond, eqb, Option, Some, None, refl, sym, subst, ◌∙◌, arith, inl, inr}
+use Rattle.frame_wire.specs.Joins.{end_of}
 use Rattle.frame_wire.specs.Laws.{Lawful}
 use Rattle.frame_wire.specs.Items.{same_fault}
 use Rattle.frame_wire.proofs.FieldFormats.{u16_lawful, u32_lawful, i64_lawful, text_lawful}
-use Rattle.frame_wire.proofs.FieldLaws.{u16_length, u32_length}
 use Rattle.frame_wire.proofs.JoinLaws.{mapped_lawful, then_lawful, list_lawful, end_lawful, nothing_left}
 use Rattle.command_fields.specs.declared.fault.DecodeFault.TheVariants.{Long}
-use Rattle.command_fields.specs.declared.offset.OffsetSpec.{OffsetSpec}
-use Rattle.command_fields.specs.declared.offset.OffsetSpec.TheVariants.{Unset, First, Last, Next, At, Since}
-use Rattle.command_fields.specs.Offsets.{spec_bytes}
 use Rattle.command_fields.specs.Tables.{LawfulEnd, LawfulTable, in_version}
 use Rattle.command_fields.proofs.OffsetLaws.{spec_lawful, property_lawful}
-use Rattle.command_fields.proofs.TableLaws.{by_version, last_lawful, then_ends, absent_ends, named_one, u8_in, u16_in, u32_in, text_in, blob_in, list_in}
+use Rattle.command_fields.proofs.ShapeLaws.{blob_some, spec_some, answer_ends, list_answer_ends}
+use Rattle.command_fields.proofs.TableLaws.{by_version, last_lawful, then_ends, named_one, u8_in, u16_in, u32_in, text_in, blob_in, list_in}
 use Rattle.command_admin.specs.declared.command.AdminCommand.{AdminCommand}
 use Rattle.command_admin.specs.declared.command.AdminCommand.TheVariants.{Plain}
 use Rattle.command_admin.specs.declared.key.AdminKey.{AdminKey}
@@ -37,22 +32,6 @@ versions_lawful = mapped_lawful versions_of of_versions _ (λ x. refl) (λ y. re
 statistic_lawful : Lawful statistic_field
 statistic_lawful = mapped_lawful statistic_of of_statistic _ (λ x. refl) (λ y. refl) (then_lawful _ _ text_lawful i64_lawful)
 
--- no content is without bytes
-list_some : {A : Type 0} (spell : A → List ℕ) (xs : List A) → 0 < length (list_bytes spell xs)
-list_some spell xs = omega (arith, u32_length (length xs), length-append (u32_bytes (length xs)) (flat_map spell xs))
-
-blob_some : (b : Option (List ℕ)) → 0 < length (blob_bytes b)
-blob_some None = omega (arith, u32_length 4294967295)
-blob_some (Some bytes) = omega (arith, u32_length (length bytes), length-append (u32_bytes (length bytes)) bytes)
-
-spec_some : (spec : OffsetSpec) → 0 < length (spec_bytes spec)
-spec_some Unset = omega (arith, u16_length 0)
-spec_some First = omega (arith, u16_length 1)
-spec_some Last = omega (arith, u16_length 2)
-spec_some Next = omega (arith, u16_length 3)
-spec_some (At offset) = omega (arith, u16_length 4, length-append (u16_bytes 4) (u64_bytes offset))
-spec_some (Since time) = omega (arith, u16_length 5, length-append (u16_bytes 5) (i64_bytes time))
-
 nothing_ends : LawfulEnd (end_of Long)
 nothing_ends = record { lawful = end_lawful Long; whole = nothing_left Long }
 
@@ -65,27 +44,27 @@ formats keys.Metadata = then_ends _ _ u32_in (last_lawful _ (list_in _ text_lawf
 formats keys.MetadataAnswer = then_ends _ _ u32_in (then_ends _ _ (list_in _ broker_lawful) (last_lawful _ (list_in _ metadata_lawful)))
 formats keys.MetadataUpdate = then_ends _ _ u16_in (last_lawful _ text_in)
 formats keys.PeerProperties = then_ends _ _ u32_in (last_lawful _ (list_in _ property_lawful))
-formats keys.PeerAnswer = then_ends _ _ u32_in (then_ends _ _ u16_in (absent_ends _ (last_lawful _ (list_in _ property_lawful)) (λ x. list_some _ x)))
+formats keys.PeerAnswer = list_answer_ends _ property_lawful
 formats keys.SaslHandshake = last_lawful _ u32_in
-formats keys.MechanismAnswer = then_ends _ _ u32_in (then_ends _ _ u16_in (absent_ends _ (last_lawful _ (list_in _ text_lawful)) (λ x. list_some _ x)))
+formats keys.MechanismAnswer = list_answer_ends _ text_lawful
 formats keys.SaslAuthenticate = then_ends _ _ u32_in (then_ends _ _ text_in (last_lawful _ blob_in))
-formats keys.SaslAnswer = then_ends _ _ u32_in (then_ends _ _ u16_in (absent_ends _ (last_lawful _ blob_in) blob_some))
+formats keys.SaslAnswer = answer_ends _ blob_in blob_some
 formats keys.Tune = then_ends _ _ u32_in (last_lawful _ u32_in)
 formats keys.TuneAnswer = then_ends _ _ u32_in (last_lawful _ u32_in)
 formats keys.OpenHost = then_ends _ _ u32_in (last_lawful _ text_in)
-formats keys.HostAnswer = then_ends _ _ u32_in (then_ends _ _ u16_in (absent_ends _ (last_lawful _ (list_in _ property_lawful)) (λ x. list_some _ x)))
+formats keys.HostAnswer = list_answer_ends _ property_lawful
 formats keys.Close = then_ends _ _ u32_in (then_ends _ _ u16_in (last_lawful _ text_in))
 formats keys.Heartbeat = nothing_ends
 formats keys.Route = then_ends _ _ u32_in (then_ends _ _ text_in (last_lawful _ text_in))
-formats keys.RouteAnswer = then_ends _ _ u32_in (then_ends _ _ u16_in (absent_ends _ (last_lawful _ (list_in _ text_lawful)) (λ x. list_some _ x)))
+formats keys.RouteAnswer = list_answer_ends _ text_lawful
 formats keys.Partitions = then_ends _ _ u32_in (last_lawful _ text_in)
-formats keys.PartitionsAnswer = then_ends _ _ u32_in (then_ends _ _ u16_in (absent_ends _ (last_lawful _ (list_in _ text_lawful)) (λ x. list_some _ x)))
+formats keys.PartitionsAnswer = list_answer_ends _ text_lawful
 formats keys.ConsumerUpdate = then_ends _ _ u32_in (then_ends _ _ u8_in (last_lawful _ flag_lawful))
-formats keys.UpdateAnswer = then_ends _ _ u32_in (then_ends _ _ u16_in (absent_ends _ (last_lawful _ spec_lawful) spec_some))
+formats keys.UpdateAnswer = answer_ends _ spec_lawful spec_some
 formats keys.ExchangeVersions = then_ends _ _ u32_in (last_lawful _ (list_in _ versions_lawful))
-formats keys.VersionsAnswer = then_ends _ _ u32_in (then_ends _ _ u16_in (absent_ends _ (last_lawful _ (list_in _ versions_lawful)) (λ x. list_some _ x)))
+formats keys.VersionsAnswer = list_answer_ends _ versions_lawful
 formats keys.StreamStats = then_ends _ _ u32_in (last_lawful _ text_in)
-formats keys.StatsAnswer = then_ends _ _ u32_in (then_ends _ _ u16_in (absent_ends _ (last_lawful _ (list_in _ statistic_lawful)) (λ x. list_some _ x)))
+formats keys.StatsAnswer = list_answer_ends _ statistic_lawful
 formats keys.CreateSuper = then_ends _ _ u32_in (then_ends _ _ text_in (then_ends _ _ (list_in _ text_lawful) (then_ends _ _ (list_in _ text_lawful) (last_lawful _ (list_in _ property_lawful)))))
 formats keys.DeleteSuper = then_ends _ _ u32_in (last_lawful _ text_in)
 formats (keys.Plain n) = then_ends _ _ u32_in (last_lawful _ u16_in)

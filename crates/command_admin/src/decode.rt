@@ -4,6 +4,7 @@
 ghost use Rattle.std.specs.Prelude.{◌≡◌, IfOk};
 ghost use Rattle.command_fields.specs.Tables.{fields_at, command_at};
 ghost use Rattle.command_fields.specs.Faults.{GivesAt, Gives, GivesOr, RefusesOr, IfFault};
+ghost use Rattle.command_admin.specs.Flags.{flag_at};
 ghost use Rattle.command_admin.specs.Commands.{admin_table, AdminSpells, AdminWrong};
 ghost use Rattle.command_admin.specs.declared.command.AdminCommand.{AdminCommand};
 ghost use Rattle.command_fields.specs.declared.fault.DecodeFault.{DecodeFault};
@@ -11,18 +12,16 @@ ghost use Rattle.command_admin.specs.declared.key.AdminKey.TheVariants as keys;
 
 use crate::command::AdminCommand;
 use crate::key::{AdminKey, key_of};
-use crate::shape::{read_answer, read_blob, read_flag, read_items, read_named, read_numbers};
-use command_fields::{DecodeError, DecodeFault, OffsetSpec, ended, read_version};
+use command_fields::{
+    DecodeError, DecodeFault, ended, read_answer, read_three, read_two, read_version,
+};
 use frame_wire::{Item, Scan, Text, read_list};
 use std::alloc::Global;
 
 fn create(alloc: Global, scan: &mut Scan<'_>) -> Result<AdminCommand, DecodeError>
     ensures { GivesAt result scan.new (fields_at admin_table keys.Create scan.old) }
 {
-    let corr = scan.u32()?;
-    let stream = Text::read(alloc, scan)?;
-    let properties = read_list(alloc, scan)?;
-    ended(scan)?;
+    let (corr, (stream, properties)) = read_three(alloc, scan)?;
     Ok(AdminCommand::Create {
         corr,
         stream,
@@ -33,24 +32,21 @@ fn create(alloc: Global, scan: &mut Scan<'_>) -> Result<AdminCommand, DecodeErro
 fn delete(alloc: Global, scan: &mut Scan<'_>) -> Result<AdminCommand, DecodeError>
     ensures { GivesAt result scan.new (fields_at admin_table keys.Delete scan.old) }
 {
-    let (corr, stream) = read_named(alloc, scan)?;
+    let (corr, stream) = read_two(alloc, scan)?;
     Ok(AdminCommand::Delete { corr, stream })
 }
 
 fn metadata(alloc: Global, scan: &mut Scan<'_>) -> Result<AdminCommand, DecodeError>
     ensures { GivesAt result scan.new (fields_at admin_table keys.Metadata scan.old) }
 {
-    let (corr, items) = read_items(alloc, scan)?;
+    let (corr, items) = read_two(alloc, scan)?;
     Ok(AdminCommand::Metadata { corr, items })
 }
 
 fn metadata_answer(alloc: Global, scan: &mut Scan<'_>) -> Result<AdminCommand, DecodeError>
     ensures { GivesAt result scan.new (fields_at admin_table keys.MetadataAnswer scan.old) }
 {
-    let corr = scan.u32()?;
-    let brokers = read_list(alloc, scan)?;
-    let streams = read_list(alloc, scan)?;
-    ended(scan)?;
+    let (corr, (brokers, streams)) = read_three(alloc, scan)?;
     Ok(AdminCommand::MetadataAnswer {
         corr,
         brokers,
@@ -61,16 +57,14 @@ fn metadata_answer(alloc: Global, scan: &mut Scan<'_>) -> Result<AdminCommand, D
 fn metadata_update(alloc: Global, scan: &mut Scan<'_>) -> Result<AdminCommand, DecodeError>
     ensures { GivesAt result scan.new (fields_at admin_table keys.MetadataUpdate scan.old) }
 {
-    let code = scan.u16()?;
-    let stream = Text::read(alloc, scan)?;
-    ended(scan)?;
+    let (code, stream) = read_two(alloc, scan)?;
     Ok(AdminCommand::MetadataUpdate { code, stream })
 }
 
 fn peer_properties(alloc: Global, scan: &mut Scan<'_>) -> Result<AdminCommand, DecodeError>
     ensures { GivesAt result scan.new (fields_at admin_table keys.PeerProperties scan.old) }
 {
-    let (corr, properties) = read_items(alloc, scan)?;
+    let (corr, properties) = read_two(alloc, scan)?;
     Ok(AdminCommand::PeerProperties { corr, properties })
 }
 
@@ -103,10 +97,7 @@ fn mechanism_answer(alloc: Global, scan: &mut Scan<'_>) -> Result<AdminCommand, 
 fn sasl_authenticate(alloc: Global, scan: &mut Scan<'_>) -> Result<AdminCommand, DecodeError>
     ensures { GivesAt result scan.new (fields_at admin_table keys.SaslAuthenticate scan.old) }
 {
-    let corr = scan.u32()?;
-    let mechanism = Text::read(alloc, scan)?;
-    let opaque = read_blob(alloc, scan)?;
-    ended(scan)?;
+    let (corr, (mechanism, opaque)) = read_three(alloc, scan)?;
     Ok(AdminCommand::SaslAuthenticate {
         corr,
         mechanism,
@@ -117,38 +108,28 @@ fn sasl_authenticate(alloc: Global, scan: &mut Scan<'_>) -> Result<AdminCommand,
 fn sasl_answer(alloc: Global, scan: &mut Scan<'_>) -> Result<AdminCommand, DecodeError>
     ensures { GivesAt result scan.new (fields_at admin_table keys.SaslAnswer scan.old) }
 {
-    let corr = scan.u32()?;
-    let code = scan.u16()?;
-    if scan.rest().is_empty() {
-        return Ok(AdminCommand::SaslAnswer {
-            corr,
-            code,
-            content: None,
-        });
-    }
-    let content = read_blob(alloc, scan)?;
-    ended(scan)?;
+    let (corr, (code, content)) = read_answer(alloc, scan)?;
     Ok(AdminCommand::SaslAnswer {
         corr,
         code,
-        content: Some(content),
+        content,
     })
 }
 
-fn tune(scan: &mut Scan<'_>) -> Result<AdminCommand, DecodeError>
+fn tune(alloc: Global, scan: &mut Scan<'_>) -> Result<AdminCommand, DecodeError>
     ensures { GivesAt result scan.new (fields_at admin_table keys.Tune scan.old) }
 {
-    let (frame_max, heartbeat) = read_numbers(scan)?;
+    let (frame_max, heartbeat) = read_two(alloc, scan)?;
     Ok(AdminCommand::Tune {
         frame_max,
         heartbeat,
     })
 }
 
-fn tune_answer(scan: &mut Scan<'_>) -> Result<AdminCommand, DecodeError>
+fn tune_answer(alloc: Global, scan: &mut Scan<'_>) -> Result<AdminCommand, DecodeError>
     ensures { GivesAt result scan.new (fields_at admin_table keys.TuneAnswer scan.old) }
 {
-    let (frame_max, heartbeat) = read_numbers(scan)?;
+    let (frame_max, heartbeat) = read_two(alloc, scan)?;
     Ok(AdminCommand::TuneAnswer {
         frame_max,
         heartbeat,
@@ -158,7 +139,7 @@ fn tune_answer(scan: &mut Scan<'_>) -> Result<AdminCommand, DecodeError>
 fn open_host(alloc: Global, scan: &mut Scan<'_>) -> Result<AdminCommand, DecodeError>
     ensures { GivesAt result scan.new (fields_at admin_table keys.OpenHost scan.old) }
 {
-    let (corr, virtual_host) = read_named(alloc, scan)?;
+    let (corr, virtual_host) = read_two(alloc, scan)?;
     Ok(AdminCommand::OpenHost { corr, virtual_host })
 }
 
@@ -176,10 +157,7 @@ fn host_answer(alloc: Global, scan: &mut Scan<'_>) -> Result<AdminCommand, Decod
 fn close(alloc: Global, scan: &mut Scan<'_>) -> Result<AdminCommand, DecodeError>
     ensures { GivesAt result scan.new (fields_at admin_table keys.Close scan.old) }
 {
-    let corr = scan.u32()?;
-    let code = scan.u16()?;
-    let reason = Text::read(alloc, scan)?;
-    ended(scan)?;
+    let (corr, (code, reason)) = read_three(alloc, scan)?;
     Ok(AdminCommand::Close { corr, code, reason })
 }
 
@@ -193,10 +171,7 @@ fn heartbeat(scan: &Scan<'_>) -> Result<AdminCommand, DecodeError>
 fn route(alloc: Global, scan: &mut Scan<'_>) -> Result<AdminCommand, DecodeError>
     ensures { GivesAt result scan.new (fields_at admin_table keys.Route scan.old) }
 {
-    let corr = scan.u32()?;
-    let routing_key = Text::read(alloc, scan)?;
-    let super_stream = Text::read(alloc, scan)?;
-    ended(scan)?;
+    let (corr, (routing_key, super_stream)) = read_three(alloc, scan)?;
     Ok(AdminCommand::Route {
         corr,
         routing_key,
@@ -214,7 +189,7 @@ fn route_answer(alloc: Global, scan: &mut Scan<'_>) -> Result<AdminCommand, Deco
 fn partitions(alloc: Global, scan: &mut Scan<'_>) -> Result<AdminCommand, DecodeError>
     ensures { GivesAt result scan.new (fields_at admin_table keys.Partitions scan.old) }
 {
-    let (corr, super_stream) = read_named(alloc, scan)?;
+    let (corr, super_stream) = read_two(alloc, scan)?;
     Ok(AdminCommand::Partitions { corr, super_stream })
 }
 
@@ -223,6 +198,18 @@ fn partitions_answer(alloc: Global, scan: &mut Scan<'_>) -> Result<AdminCommand,
 {
     let (corr, (code, items)) = read_answer(alloc, scan)?;
     Ok(AdminCommand::PartitionsAnswer { corr, code, items })
+}
+
+/// A byte that is 0 or 1.
+fn read_flag(scan: &mut Scan<'_>) -> Result<u8, DecodeError>
+    ensures { GivesAt result scan.new (flag_at scan.old) }
+{
+    let place = scan.place();
+    let value = scan.u8()?;
+    if value > 1 {
+        return Err(DecodeError::Fault(DecodeFault::Flag { place }));
+    }
+    Ok(value)
 }
 
 fn consumer_update(scan: &mut Scan<'_>) -> Result<AdminCommand, DecodeError>
@@ -235,31 +222,21 @@ fn consumer_update(scan: &mut Scan<'_>) -> Result<AdminCommand, DecodeError>
     Ok(AdminCommand::ConsumerUpdate { corr, sub, active })
 }
 
-fn update_answer(scan: &mut Scan<'_>) -> Result<AdminCommand, DecodeError>
+fn update_answer(alloc: Global, scan: &mut Scan<'_>) -> Result<AdminCommand, DecodeError>
     ensures { GivesAt result scan.new (fields_at admin_table keys.UpdateAnswer scan.old) }
 {
-    let corr = scan.u32()?;
-    let code = scan.u16()?;
-    if scan.rest().is_empty() {
-        return Ok(AdminCommand::UpdateAnswer {
-            corr,
-            code,
-            content: None,
-        });
-    }
-    let content = OffsetSpec::read(scan)?;
-    ended(scan)?;
+    let (corr, (code, content)) = read_answer(alloc, scan)?;
     Ok(AdminCommand::UpdateAnswer {
         corr,
         code,
-        content: Some(content),
+        content,
     })
 }
 
 fn exchange_versions(alloc: Global, scan: &mut Scan<'_>) -> Result<AdminCommand, DecodeError>
     ensures { GivesAt result scan.new (fields_at admin_table keys.ExchangeVersions scan.old) }
 {
-    let (corr, items) = read_items(alloc, scan)?;
+    let (corr, items) = read_two(alloc, scan)?;
     Ok(AdminCommand::ExchangeVersions { corr, items })
 }
 
@@ -273,7 +250,7 @@ fn versions_answer(alloc: Global, scan: &mut Scan<'_>) -> Result<AdminCommand, D
 fn stream_stats(alloc: Global, scan: &mut Scan<'_>) -> Result<AdminCommand, DecodeError>
     ensures { GivesAt result scan.new (fields_at admin_table keys.StreamStats scan.old) }
 {
-    let (corr, stream) = read_named(alloc, scan)?;
+    let (corr, stream) = read_two(alloc, scan)?;
     Ok(AdminCommand::StreamStats { corr, stream })
 }
 
@@ -305,16 +282,14 @@ fn create_super(alloc: Global, scan: &mut Scan<'_>) -> Result<AdminCommand, Deco
 fn delete_super(alloc: Global, scan: &mut Scan<'_>) -> Result<AdminCommand, DecodeError>
     ensures { GivesAt result scan.new (fields_at admin_table keys.DeleteSuper scan.old) }
 {
-    let (corr, name) = read_named(alloc, scan)?;
+    let (corr, name) = read_two(alloc, scan)?;
     Ok(AdminCommand::DeleteSuper { corr, name })
 }
 
-fn plain(key: u16, scan: &mut Scan<'_>) -> Result<AdminCommand, DecodeError>
+fn plain(alloc: Global, key: u16, scan: &mut Scan<'_>) -> Result<AdminCommand, DecodeError>
     ensures { GivesAt result scan.new (fields_at admin_table (keys.Plain key) scan.old) }
 {
-    let corr = scan.u32()?;
-    let code = scan.u16()?;
-    ended(scan)?;
+    let (corr, code) = read_two(alloc, scan)?;
     Ok(AdminCommand::Plain { key, corr, code })
 }
 
@@ -335,8 +310,8 @@ fn fields(alloc: Global, key: AdminKey, scan: &mut Scan<'_>) -> Result<AdminComm
         AdminKey::MechanismAnswer => mechanism_answer(alloc, scan),
         AdminKey::SaslAuthenticate => sasl_authenticate(alloc, scan),
         AdminKey::SaslAnswer => sasl_answer(alloc, scan),
-        AdminKey::Tune => tune(scan),
-        AdminKey::TuneAnswer => tune_answer(scan),
+        AdminKey::Tune => tune(alloc, scan),
+        AdminKey::TuneAnswer => tune_answer(alloc, scan),
         AdminKey::OpenHost => open_host(alloc, scan),
         AdminKey::HostAnswer => host_answer(alloc, scan),
         AdminKey::Close => close(alloc, scan),
@@ -346,14 +321,14 @@ fn fields(alloc: Global, key: AdminKey, scan: &mut Scan<'_>) -> Result<AdminComm
         AdminKey::Partitions => partitions(alloc, scan),
         AdminKey::PartitionsAnswer => partitions_answer(alloc, scan),
         AdminKey::ConsumerUpdate => consumer_update(scan),
-        AdminKey::UpdateAnswer => update_answer(scan),
+        AdminKey::UpdateAnswer => update_answer(alloc, scan),
         AdminKey::ExchangeVersions => exchange_versions(alloc, scan),
         AdminKey::VersionsAnswer => versions_answer(alloc, scan),
         AdminKey::StreamStats => stream_stats(alloc, scan),
         AdminKey::StatsAnswer => stats_answer(alloc, scan),
         AdminKey::CreateSuper => create_super(alloc, scan),
         AdminKey::DeleteSuper => delete_super(alloc, scan),
-        AdminKey::Plain(key) => plain(key, scan),
+        AdminKey::Plain(key) => plain(alloc, key, scan),
     }
 }
 

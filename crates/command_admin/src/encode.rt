@@ -6,11 +6,8 @@ ghost use Rattle.command_fields.specs.Tables.{IsCommand, FitsIn, body_of};
 ghost use Rattle.command_admin.specs.Commands.{admin_table, admin_layout, key_of, fields_of, AdminSpells};
 
 use crate::command::AdminCommand;
-use crate::put::{
-    put_answer, put_blob_answer, put_close, put_items, put_metadata, put_named, put_numbers,
-    put_offset_answer, put_opaque, put_plain, put_reason, put_stream, put_super_stream, put_texts,
-    put_update,
-};
+use crate::put::put_super_stream;
+use command_fields::{put_answer, put_three, put_two};
 use frame_wire::{Octets, put_u16, put_u32};
 use std::alloc::{AllocError, Global};
 
@@ -64,16 +61,16 @@ fn put_fields(out: &mut Octets, command: &AdminCommand) -> Result<(), AllocError
             corr,
             stream,
             properties,
-        } => put_stream(out, *corr, stream, properties),
-        AdminCommand::Delete { corr, stream } => put_named(out, *corr, stream),
-        AdminCommand::Metadata { corr, items } => put_items(out, *corr, items),
+        } => put_three(out, corr, stream, properties),
+        AdminCommand::Delete { corr, stream } => put_two(out, corr, stream),
+        AdminCommand::Metadata { corr, items } => put_two(out, corr, items),
         AdminCommand::MetadataAnswer {
             corr,
             brokers,
             streams,
-        } => put_metadata(out, *corr, brokers, streams),
-        AdminCommand::MetadataUpdate { code, stream } => put_reason(out, *code, stream),
-        AdminCommand::PeerProperties { corr, properties } => put_items(out, *corr, properties),
+        } => put_three(out, corr, brokers, streams),
+        AdminCommand::MetadataUpdate { code, stream } => put_two(out, code, stream),
+        AdminCommand::PeerProperties { corr, properties } => put_two(out, corr, properties),
         AdminCommand::PeerAnswer {
             corr,
             code,
@@ -85,47 +82,47 @@ fn put_fields(out: &mut Octets, command: &AdminCommand) -> Result<(), AllocError
             corr,
             mechanism,
             opaque,
-        } => put_opaque(out, *corr, mechanism, opaque),
+        } => put_three(out, corr, mechanism, opaque),
         AdminCommand::SaslAnswer {
             corr,
             code,
             content,
-        } => put_blob_answer(out, *corr, *code, content),
+        } => put_answer(out, *corr, *code, content),
         AdminCommand::Tune {
             frame_max,
             heartbeat,
-        } => put_numbers(out, *frame_max, *heartbeat),
+        } => put_two(out, frame_max, heartbeat),
         AdminCommand::TuneAnswer {
             frame_max,
             heartbeat,
-        } => put_numbers(out, *frame_max, *heartbeat),
-        AdminCommand::OpenHost { corr, virtual_host } => put_named(out, *corr, virtual_host),
+        } => put_two(out, frame_max, heartbeat),
+        AdminCommand::OpenHost { corr, virtual_host } => put_two(out, corr, virtual_host),
         AdminCommand::HostAnswer {
             corr,
             code,
             properties,
         } => put_answer(out, *corr, *code, properties),
-        AdminCommand::Close { corr, code, reason } => put_close(out, *corr, *code, reason),
+        AdminCommand::Close { corr, code, reason } => put_three(out, corr, code, reason),
         AdminCommand::Heartbeat => Ok(()),
         AdminCommand::Route {
             corr,
             routing_key,
             super_stream,
-        } => put_texts(out, *corr, routing_key, super_stream),
+        } => put_three(out, corr, routing_key, super_stream),
         AdminCommand::RouteAnswer { corr, code, items } => put_answer(out, *corr, *code, items),
-        AdminCommand::Partitions { corr, super_stream } => put_named(out, *corr, super_stream),
+        AdminCommand::Partitions { corr, super_stream } => put_two(out, corr, super_stream),
         AdminCommand::PartitionsAnswer { corr, code, items } => put_answer(
             out, *corr, *code, items,
         ),
-        AdminCommand::ConsumerUpdate { corr, sub, active } => put_update(out, *corr, *sub, *active),
+        AdminCommand::ConsumerUpdate { corr, sub, active } => put_three(out, corr, sub, active),
         AdminCommand::UpdateAnswer {
             corr,
             code,
             content,
-        } => put_offset_answer(out, *corr, *code, content),
-        AdminCommand::ExchangeVersions { corr, items } => put_items(out, *corr, items),
+        } => put_answer(out, *corr, *code, content),
+        AdminCommand::ExchangeVersions { corr, items } => put_two(out, corr, items),
         AdminCommand::VersionsAnswer { corr, code, items } => put_answer(out, *corr, *code, items),
-        AdminCommand::StreamStats { corr, stream } => put_named(out, *corr, stream),
+        AdminCommand::StreamStats { corr, stream } => put_two(out, corr, stream),
         AdminCommand::StatsAnswer { corr, code, items } => put_answer(out, *corr, *code, items),
         AdminCommand::CreateSuper {
             corr,
@@ -134,8 +131,8 @@ fn put_fields(out: &mut Octets, command: &AdminCommand) -> Result<(), AllocError
             keys,
             properties,
         } => put_super_stream(out, *corr, name, partitions, keys, properties),
-        AdminCommand::DeleteSuper { corr, name } => put_named(out, *corr, name),
-        AdminCommand::Plain { corr, code, .. } => put_plain(out, *corr, *code),
+        AdminCommand::DeleteSuper { corr, name } => put_two(out, corr, name),
+        AdminCommand::Plain { corr, code, .. } => put_two(out, corr, code),
     }
 }
 

@@ -7,12 +7,8 @@ ghost use Rattle.command_admin.specs.Commands.{admin_table, admin_layout, key_of
 
 use crate::command::AdminCommand;
 use crate::key::is_plain;
-use crate::size::{
-    answer_size, blob_answer_size, close_size, items_size, metadata_size, named_size, number_size,
-    numbers_size, offset_answer_size, opaque_size, plain_size, reason_size, stream_size,
-    super_stream_size, texts_size, update_size,
-};
-use command_fields::GREATEST_BODY;
+use crate::size::{super_stream_size, update_size};
+use command_fields::{Field, GREATEST_BODY, answer_size, size_of_three, size_of_two};
 
 /// Whether the key is one of the protocol's.
 fn is_known(command: &AdminCommand) -> bool
@@ -33,66 +29,66 @@ fn fields_size(command: &AdminCommand) -> Option<u64>
             corr,
             stream,
             properties,
-        } => stream_size(*corr, stream, properties),
-        AdminCommand::Delete { corr, stream } => named_size(*corr, stream),
-        AdminCommand::Metadata { corr, items } => items_size(*corr, items),
+        } => size_of_three(corr, stream, properties),
+        AdminCommand::Delete { corr, stream } => size_of_two(corr, stream),
+        AdminCommand::Metadata { corr, items } => size_of_two(corr, items),
         AdminCommand::MetadataAnswer {
             corr,
             brokers,
             streams,
-        } => metadata_size(*corr, brokers, streams),
-        AdminCommand::MetadataUpdate { code, stream } => reason_size(*code, stream),
-        AdminCommand::PeerProperties { corr, properties } => items_size(*corr, properties),
+        } => size_of_three(corr, brokers, streams),
+        AdminCommand::MetadataUpdate { code, stream } => size_of_two(code, stream),
+        AdminCommand::PeerProperties { corr, properties } => size_of_two(corr, properties),
         AdminCommand::PeerAnswer {
             corr,
             code,
             properties,
         } => answer_size(*corr, *code, properties),
-        AdminCommand::SaslHandshake { corr } => number_size(*corr),
+        AdminCommand::SaslHandshake { corr } => corr.field_size(),
         AdminCommand::MechanismAnswer { corr, code, items } => answer_size(*corr, *code, items),
         AdminCommand::SaslAuthenticate {
             corr,
             mechanism,
             opaque,
-        } => opaque_size(*corr, mechanism, opaque),
+        } => size_of_three(corr, mechanism, opaque),
         AdminCommand::SaslAnswer {
             corr,
             code,
             content,
-        } => blob_answer_size(*corr, *code, content),
+        } => answer_size(*corr, *code, content),
         AdminCommand::Tune {
             frame_max,
             heartbeat,
-        } => numbers_size(*frame_max, *heartbeat),
+        } => size_of_two(frame_max, heartbeat),
         AdminCommand::TuneAnswer {
             frame_max,
             heartbeat,
-        } => numbers_size(*frame_max, *heartbeat),
-        AdminCommand::OpenHost { corr, virtual_host } => named_size(*corr, virtual_host),
+        } => size_of_two(frame_max, heartbeat),
+        AdminCommand::OpenHost { corr, virtual_host } => size_of_two(corr, virtual_host),
         AdminCommand::HostAnswer {
             corr,
             code,
             properties,
         } => answer_size(*corr, *code, properties),
-        AdminCommand::Close { corr, code, reason } => close_size(*corr, *code, reason),
+        AdminCommand::Close { corr, code, reason } => size_of_three(corr, code, reason),
         AdminCommand::Heartbeat => Some(0),
         AdminCommand::Route {
             corr,
             routing_key,
             super_stream,
-        } => texts_size(*corr, routing_key, super_stream),
+        } => size_of_three(corr, routing_key, super_stream),
         AdminCommand::RouteAnswer { corr, code, items } => answer_size(*corr, *code, items),
-        AdminCommand::Partitions { corr, super_stream } => named_size(*corr, super_stream),
+        AdminCommand::Partitions { corr, super_stream } => size_of_two(corr, super_stream),
         AdminCommand::PartitionsAnswer { corr, code, items } => answer_size(*corr, *code, items),
         AdminCommand::ConsumerUpdate { corr, sub, active } => update_size(*corr, *sub, *active),
         AdminCommand::UpdateAnswer {
             corr,
             code,
             content,
-        } => offset_answer_size(*corr, *code, content),
-        AdminCommand::ExchangeVersions { corr, items } => items_size(*corr, items),
+        } => answer_size(*corr, *code, content),
+        AdminCommand::ExchangeVersions { corr, items } => size_of_two(corr, items),
         AdminCommand::VersionsAnswer { corr, code, items } => answer_size(*corr, *code, items),
-        AdminCommand::StreamStats { corr, stream } => named_size(*corr, stream),
+        AdminCommand::StreamStats { corr, stream } => size_of_two(corr, stream),
         AdminCommand::StatsAnswer { corr, code, items } => answer_size(*corr, *code, items),
         AdminCommand::CreateSuper {
             corr,
@@ -101,8 +97,8 @@ fn fields_size(command: &AdminCommand) -> Option<u64>
             keys,
             properties,
         } => super_stream_size(*corr, name, partitions, keys, properties),
-        AdminCommand::DeleteSuper { corr, name } => named_size(*corr, name),
-        AdminCommand::Plain { corr, code, .. } => plain_size(*corr, *code),
+        AdminCommand::DeleteSuper { corr, name } => size_of_two(corr, name),
+        AdminCommand::Plain { corr, code, .. } => size_of_two(corr, code),
     }
 }
 

@@ -10,7 +10,6 @@ mod item;
 mod key;
 mod laws;
 mod put;
-mod shape;
 mod size;
 
 pub use command::AdminCommand;

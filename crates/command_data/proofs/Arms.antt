@@ -1,5 +1,5 @@
--- The arms of functions over commands.
-use Rattle.std.proofs.Common.{◌≡◌, ℕ, ◌+◌, ◌<◌, ◌≤◌, List, length, Some, None, Result, sym, subst, arith}
+-- The lengths of deliveries.
+use Rattle.std.proofs.Common.{◌≡◌, ℕ, ◌+◌, ◌<◌, ◌≤◌, List, length, Some, None, arith}
 use Rattle.std.proofs.lemmas.List.{length-append}
 use Rattle.chunk_format.specs.declared.chunk.Header.{Header}
 use Rattle.chunk_format.specs.Chunks.{header_bytes}
@@ -7,21 +7,6 @@ use Rattle.chunk_format.specs.Faults.{IsHeader}
 use Rattle.chunk_format.proofs.FieldLaws.{header_long}
 use Rattle.command_fields.specs.Sizes.{Measures}
 use Rattle.command_data.specs.Items.{delivered}
-use Rattle.std.specs.declared.alloc.AllocError.{AllocError}
-use Rattle.command_fields.specs.Adding.{Adds}
-use Rattle.command_fields.specs.Tables.{IsCommand}
-use Rattle.command_data.specs.declared.command.DataCommand.{DataCommand}
-use Rattle.command_data.specs.Commands.{data_layout, key_of, fields_of, data_table}
-
--- the fields of a command that is known by its parts
-pub as_spelled : {c d : DataCommand} (r : Result (Unit {0}) AllocError) (new old : List ℕ) → c ≡ d → Adds r old new ((data_layout (key_of d)).format.spell (fields_of d))
-    → Adds r old new ((data_layout (key_of c)).format.spell (fields_of c))
-as_spelled r new old is ensures = subst (λ (x : DataCommand). Adds r old new ((data_layout (key_of x)).format.spell (fields_of x))) (sym is) ensures
-
-pub needs : {c d : DataCommand} → c ≡ d → IsCommand data_table c → IsCommand data_table d
-needs is right = subst (IsCommand data_table) is right
-
--- ---- the lengths of deliveries
 
 delivered_length : (header : Header) (payload : List ℕ) → length (delivered.spell (header, payload)) ≡ 48 + length payload
 delivered_length header payload = omega (arith, length-append (header_bytes header) payload, header_long header)

@@ -1,13 +1,8 @@
 -- The table of the data commands is lawful.
-use Rattle.std.proofs.Common.{◌≡◌, ℕ, ◌^◌, ◌<◌, List, length, Option, Some, refl, sym, subst, ◌∙◌, arith, inl, inr}
-use Rattle.std.specs.List.{flat_map}
-use Rattle.std.proofs.lemmas.List.{length-append}
-use Rattle.frame_wire.specs.Fields.{count_bytes}
-use Rattle.frame_wire.specs.Formats.{Format, u16_field, u64_field}
+use Rattle.std.proofs.Common.{◌≡◌, ℕ, ◌^◌, ◌<◌, Option, Some, refl, sym, subst, ◌∙◌, arith, inl, inr}
+use Rattle.frame_wire.specs.Formats.{u16_field, u64_field}
 use Rattle.frame_wire.specs.Joins.{◌then◌}
 use Rattle.frame_wire.specs.Laws.{Lawful}
-use Rattle.frame_wire.specs.declared.fault.FieldFault.{FieldFault}
-use Rattle.frame_wire.proofs.FieldLaws.{u32_length, u64_length}
 use Rattle.frame_wire.proofs.FieldFormats.{u16_lawful, u64_lawful}
 use Rattle.frame_wire.proofs.JoinLaws.{then_lawful, mapped_lawful, within_lawful}
 use Rattle.frame_wire.proofs.ViewLaws.{raw_lawful, behind_lawful}
@@ -15,8 +10,9 @@ use Rattle.chunk_format.specs.ChunkFields.{entry_field, header_field}
 use Rattle.chunk_format.proofs.FieldLaws.{entry_lawful, header_lawful}
 use Rattle.command_fields.specs.declared.fault.DecodeFault.TheVariants.{Short}
 use Rattle.command_fields.specs.Properties.{property_field}
-use Rattle.command_fields.specs.Tables.{LawfulEnd, LawfulTable, in_version, u64, list_of, last}
+use Rattle.command_fields.specs.Tables.{LawfulEnd, LawfulTable, in_version, u64}
 use Rattle.command_fields.proofs.OffsetLaws.{spec_lawful, property_lawful}
+use Rattle.command_fields.proofs.ShapeLaws.{number_some, list_some, answer_ends}
 use Rattle.command_fields.proofs.TableLaws.{by_version, last_lawful, then_ends, absent_ends, named_one, u8_in, u16_in, u32_in, u64_in, text_in, list_in}
 use Rattle.command_data.specs.declared.command.DataCommand.{DataCommand}
 use Rattle.command_data.specs.declared.command.DataCommand.TheVariants.{Plain}
@@ -34,15 +30,6 @@ refusal_lawful = mapped_lawful refusal_of refusal_parts (u64_field then u16_fiel
 delivered_lawful : Lawful delivered
 delivered_lawful = behind_lawful _ _ (within_lawful of_header header_field header_lawful) (λ header. raw_lawful (λ place. Short place) header.payload_len)
 
-number_some : (n : ℕ) → 0 < length ((last u64).spell n)
-number_some n = omega (arith, u64_length n)
-
-list_some : {A : Type 0} (f : Format A FieldFault) (xs : List A) → 0 < length ((last (list_of f)).spell xs)
-list_some f xs = omega (arith, length-append (count_bytes (length xs)) (flat_map f.spell xs), u32_length (length xs))
-
-answer_ends : LawfulEnd (data_layout keys.SequenceAnswer).format
-answer_ends = then_ends _ _ u32_in (then_ends _ _ u16_in (absent_ends (last u64) (last_lawful u64 u64_in) number_some))
-
 two_texts_end : LawfulEnd (data_layout keys.QueryOffset).format
 two_texts_end = then_ends _ _ u32_in (then_ends _ _ text_in (last_lawful _ text_in))
 
@@ -55,7 +42,7 @@ formats keys.Publish = then_ends _ _ u8_in (last_lawful _ (list_in _ tagged_lawf
 formats keys.PublishConfirm = then_ends _ _ u8_in (last_lawful _ (list_in _ u64_lawful))
 formats keys.PublishError = then_ends _ _ u8_in (last_lawful _ (list_in _ refusal_lawful))
 formats keys.QueryPublisherSequence = two_texts_end
-formats keys.SequenceAnswer = answer_ends
+formats keys.SequenceAnswer = answer_ends u64 u64_in number_some
 formats keys.DeletePublisher = id_ends
 formats keys.Subscribe =
     then_ends _ _ u32_in (then_ends _ _ u8_in (then_ends _ _ text_in (then_ends _ _ spec_lawful (then_ends _ _ u16_in (absent_ends _ (last_lawful _ (list_in _ property_lawful)) (list_some property_field))))))
@@ -65,7 +52,7 @@ formats keys.Credit = then_ends _ _ u8_in (last_lawful _ u16_in)
 formats keys.CreditFault = then_ends _ _ u16_in (last_lawful _ u8_in)
 formats keys.StoreOffset = then_ends _ _ text_in (then_ends _ _ text_in (last_lawful _ u64_in))
 formats keys.QueryOffset = two_texts_end
-formats keys.OffsetAnswer = answer_ends
+formats keys.OffsetAnswer = answer_ends u64 u64_in number_some
 formats keys.Unsubscribe = id_ends
 formats (keys.Plain n) = then_ends _ _ u32_in (last_lawful _ u16_in)
 

@@ -1,5 +1,5 @@
 -- Where a subscription begins in a list of chunks that goes on.
-use Rattle.std.proofs.Common.{◌≡◌, ℕ, ℤ, Bool, true, false, cond, List, [], ◌∷◌, ◌++◌, Option, Some, None, refl, sym, ap, ◌∙◌}
+use Rattle.std.proofs.Common.{◌≡◌, ℕ, ℤ, Bool, true, false, cond, List, [], ◌∷◌, ◌++◌, Option, Some, None, refl, ap, ◌∙◌}
 use Rattle.std.specs.Prelude.{option_map, unwrap_or, filter, find}
 use Rattle.std.specs.List.{last_or}
 use Rattle.std.specs.Option.{option_or}
@@ -7,7 +7,7 @@ use Rattle.std.proofs.lemmas.List.{append-nil}
 use Rattle.std.proofs.lemmas.List.Elements.{filter-append}
 use Rattle.std.proofs.lemmas.List.Folds.{find-append}
 use Rattle.chunk_format.specs.declared.chunk.Chunk.{Chunk}
-use Rattle.chunk_format.specs.Logs.{end_from, end_of, is_user, is_since, last_user, first_since}
+use Rattle.chunk_format.specs.Logs.{end_of, is_user, is_since, last_user, first_since}
 use Rattle.chunk_format.proofs.LinkLaws.{end_join}
 use Rattle.command_fields.specs.declared.offset.OffsetSpec.TheVariants.{Last, Since}
 use Rattle.command_data.specs.Starts.{StartOf, StartsGoOn}

@@ -3,9 +3,7 @@
 ghost use Rattle.std.specs.Prelude.{◌≡◌, IfOk};
 ghost use Rattle.command_fields.specs.Tables.{fields_at, command_at};
 ghost use Rattle.command_fields.specs.Faults.{GivesAt, Gives, GivesOr, RefusesOr, IfFault};
-ghost use Rattle.frame_wire.specs.Joins.{or_absent};
-ghost use Rattle.command_fields.specs.Tables.{last, list_of};
-ghost use Rattle.command_fields.specs.Properties.{property_field};
+ghost use Rattle.command_fields.specs.Tables.{last};
 ghost use Rattle.command_data.specs.Items.{delivered};
 ghost use Rattle.command_data.specs.Commands.{data_table, DataSpells, DataWrong};
 ghost use Rattle.command_data.specs.declared.key.DataKey.TheVariants as keys;
@@ -13,10 +11,11 @@ ghost use Rattle.command_fields.specs.declared.fault.DecodeFault.{DecodeFault};
 
 use crate::command::DataCommand;
 use crate::key::{DataKey, in_version, key_of};
-use crate::shape::{read_id, read_number, read_two_texts};
 use chunk_format::{Header, HeaderFault, read_header};
-use command_fields::{DecodeError, DecodeFault, OffsetSpec, Property, ended};
-use frame_wire::{Item, Octets, Row, Scan, Text, read_list};
+use command_fields::{
+    DecodeError, DecodeFault, OffsetSpec, ended, read_answer, read_or_absent, read_three, read_two,
+};
+use frame_wire::{Item, Octets, Scan, Text};
 use std::alloc::Global;
 
 #[tactic(auto, unfolding(command_fields::specs::Tables::fields_at))]
@@ -40,9 +39,7 @@ fn declare_publisher(alloc: Global, scan: &mut Scan<'_>) -> Result<DataCommand, 
 fn publish(alloc: Global, scan: &mut Scan<'_>) -> Result<DataCommand, DecodeError>
     ensures { GivesAt result scan.new (fields_at data_table keys.Publish scan.old) }
 {
-    let publisher = scan.u8()?;
-    let items = read_list(alloc, scan)?;
-    ended(scan)?;
+    let (publisher, items) = read_two(alloc, scan)?;
     Ok(DataCommand::Publish { publisher, items })
 }
 
@@ -50,9 +47,7 @@ fn publish(alloc: Global, scan: &mut Scan<'_>) -> Result<DataCommand, DecodeErro
 fn publish_confirm(alloc: Global, scan: &mut Scan<'_>) -> Result<DataCommand, DecodeError>
     ensures { GivesAt result scan.new (fields_at data_table keys.PublishConfirm scan.old) }
 {
-    let publisher = scan.u8()?;
-    let items = read_list(alloc, scan)?;
-    ended(scan)?;
+    let (publisher, items) = read_two(alloc, scan)?;
     Ok(DataCommand::PublishConfirm { publisher, items })
 }
 
@@ -60,9 +55,7 @@ fn publish_confirm(alloc: Global, scan: &mut Scan<'_>) -> Result<DataCommand, De
 fn publish_error(alloc: Global, scan: &mut Scan<'_>) -> Result<DataCommand, DecodeError>
     ensures { GivesAt result scan.new (fields_at data_table keys.PublishError scan.old) }
 {
-    let publisher = scan.u8()?;
-    let items = read_list(alloc, scan)?;
-    ended(scan)?;
+    let (publisher, items) = read_two(alloc, scan)?;
     Ok(DataCommand::PublishError { publisher, items })
 }
 
@@ -70,7 +63,7 @@ fn publish_error(alloc: Global, scan: &mut Scan<'_>) -> Result<DataCommand, Deco
 fn query_publisher_sequence(alloc: Global, scan: &mut Scan<'_>) -> Result<DataCommand, DecodeError>
     ensures { GivesAt result scan.new (fields_at data_table keys.QueryPublisherSequence scan.old) }
 {
-    let (corr, (reference, stream)) = read_two_texts(alloc, scan)?;
+    let (corr, (reference, stream)) = read_three(alloc, scan)?;
     Ok(DataCommand::QueryPublisherSequence {
         corr,
         reference,
@@ -79,10 +72,10 @@ fn query_publisher_sequence(alloc: Global, scan: &mut Scan<'_>) -> Result<DataCo
 }
 
 #[tactic(auto, unfolding(command_fields::specs::Tables::fields_at))]
-fn sequence_answer(scan: &mut Scan<'_>) -> Result<DataCommand, DecodeError>
+fn sequence_answer(alloc: Global, scan: &mut Scan<'_>) -> Result<DataCommand, DecodeError>
     ensures { GivesAt result scan.new (fields_at data_table keys.SequenceAnswer scan.old) }
 {
-    let (corr, (code, content)) = read_number(scan)?;
+    let (corr, (code, content)) = read_answer(alloc, scan)?;
     Ok(DataCommand::SequenceAnswer {
         corr,
         code,
@@ -91,23 +84,11 @@ fn sequence_answer(scan: &mut Scan<'_>) -> Result<DataCommand, DecodeError>
 }
 
 #[tactic(auto, unfolding(command_fields::specs::Tables::fields_at))]
-fn delete_publisher(scan: &mut Scan<'_>) -> Result<DataCommand, DecodeError>
+fn delete_publisher(alloc: Global, scan: &mut Scan<'_>) -> Result<DataCommand, DecodeError>
     ensures { GivesAt result scan.new (fields_at data_table keys.DeletePublisher scan.old) }
 {
-    let (corr, publisher) = read_id(scan)?;
+    let (corr, publisher) = read_two(alloc, scan)?;
     Ok(DataCommand::DeletePublisher { corr, publisher })
-}
-
-/// Properties to the body's end, absent where nothing is left.
-fn read_properties(alloc: Global, scan: &mut Scan<'_>) -> Result<Option<Row<Property>>, DecodeError>
-    ensures { GivesAt result scan.new ((or_absent (last (list_of property_field))).read scan.old) }
-{
-    if scan.rest().is_empty() {
-        return Ok(None);
-    }
-    let properties = read_list(alloc, scan)?;
-    ended(scan)?;
-    Ok(Some(properties))
 }
 
 #[tactic(auto, unfolding(command_fields::specs::Tables::fields_at))]
@@ -119,7 +100,7 @@ fn subscribe(alloc: Global, scan: &mut Scan<'_>) -> Result<DataCommand, DecodeEr
     let stream = Text::read(alloc, scan)?;
     let spec = OffsetSpec::read(scan)?;
     let credit = scan.u16()?;
-    let properties = read_properties(alloc, scan)?;
+    let properties = read_or_absent(alloc, scan)?;
     Ok(DataCommand::Subscribe {
         corr,
         sub,
@@ -187,22 +168,18 @@ fn deliver_two(alloc: Global, scan: &mut Scan<'_>) -> Result<DataCommand, Decode
 }
 
 #[tactic(auto, unfolding(command_fields::specs::Tables::fields_at))]
-fn credit(scan: &mut Scan<'_>) -> Result<DataCommand, DecodeError>
+fn credit(alloc: Global, scan: &mut Scan<'_>) -> Result<DataCommand, DecodeError>
     ensures { GivesAt result scan.new (fields_at data_table keys.Credit scan.old) }
 {
-    let sub = scan.u8()?;
-    let credit = scan.u16()?;
-    ended(scan)?;
+    let (sub, credit) = read_two(alloc, scan)?;
     Ok(DataCommand::Credit { sub, credit })
 }
 
 #[tactic(auto, unfolding(command_fields::specs::Tables::fields_at))]
-fn credit_fault(scan: &mut Scan<'_>) -> Result<DataCommand, DecodeError>
+fn credit_fault(alloc: Global, scan: &mut Scan<'_>) -> Result<DataCommand, DecodeError>
     ensures { GivesAt result scan.new (fields_at data_table keys.CreditFault scan.old) }
 {
-    let code = scan.u16()?;
-    let sub = scan.u8()?;
-    ended(scan)?;
+    let (code, sub) = read_two(alloc, scan)?;
     Ok(DataCommand::CreditFault { code, sub })
 }
 
@@ -210,10 +187,7 @@ fn credit_fault(scan: &mut Scan<'_>) -> Result<DataCommand, DecodeError>
 fn store_offset(alloc: Global, scan: &mut Scan<'_>) -> Result<DataCommand, DecodeError>
     ensures { GivesAt result scan.new (fields_at data_table keys.StoreOffset scan.old) }
 {
-    let reference = Text::read(alloc, scan)?;
-    let stream = Text::read(alloc, scan)?;
-    let offset = scan.u64()?;
-    ended(scan)?;
+    let (reference, (stream, offset)) = read_three(alloc, scan)?;
     Ok(DataCommand::StoreOffset {
         reference,
         stream,
@@ -225,7 +199,7 @@ fn store_offset(alloc: Global, scan: &mut Scan<'_>) -> Result<DataCommand, Decod
 fn query_offset(alloc: Global, scan: &mut Scan<'_>) -> Result<DataCommand, DecodeError>
     ensures { GivesAt result scan.new (fields_at data_table keys.QueryOffset scan.old) }
 {
-    let (corr, (reference, stream)) = read_two_texts(alloc, scan)?;
+    let (corr, (reference, stream)) = read_three(alloc, scan)?;
     Ok(DataCommand::QueryOffset {
         corr,
         reference,
@@ -234,10 +208,10 @@ fn query_offset(alloc: Global, scan: &mut Scan<'_>) -> Result<DataCommand, Decod
 }
 
 #[tactic(auto, unfolding(command_fields::specs::Tables::fields_at))]
-fn offset_answer(scan: &mut Scan<'_>) -> Result<DataCommand, DecodeError>
+fn offset_answer(alloc: Global, scan: &mut Scan<'_>) -> Result<DataCommand, DecodeError>
     ensures { GivesAt result scan.new (fields_at data_table keys.OffsetAnswer scan.old) }
 {
-    let (corr, (code, content)) = read_number(scan)?;
+    let (corr, (code, content)) = read_answer(alloc, scan)?;
     Ok(DataCommand::OffsetAnswer {
         corr,
         code,
@@ -246,20 +220,18 @@ fn offset_answer(scan: &mut Scan<'_>) -> Result<DataCommand, DecodeError>
 }
 
 #[tactic(auto, unfolding(command_fields::specs::Tables::fields_at))]
-fn unsubscribe(scan: &mut Scan<'_>) -> Result<DataCommand, DecodeError>
+fn unsubscribe(alloc: Global, scan: &mut Scan<'_>) -> Result<DataCommand, DecodeError>
     ensures { GivesAt result scan.new (fields_at data_table keys.Unsubscribe scan.old) }
 {
-    let (corr, sub) = read_id(scan)?;
+    let (corr, sub) = read_two(alloc, scan)?;
     Ok(DataCommand::Unsubscribe { corr, sub })
 }
 
 #[tactic(auto, unfolding(command_fields::specs::Tables::fields_at))]
-fn plain(key: u16, scan: &mut Scan<'_>) -> Result<DataCommand, DecodeError>
+fn plain(alloc: Global, key: u16, scan: &mut Scan<'_>) -> Result<DataCommand, DecodeError>
     ensures { GivesAt result scan.new (fields_at data_table (keys.Plain key) scan.old) }
 {
-    let corr = scan.u32()?;
-    let code = scan.u16()?;
-    ended(scan)?;
+    let (corr, code) = read_two(alloc, scan)?;
     Ok(DataCommand::Plain { key, corr, code })
 }
 
@@ -272,18 +244,18 @@ fn fields(alloc: Global, key: DataKey, scan: &mut Scan<'_>) -> Result<DataComman
         DataKey::PublishConfirm => publish_confirm(alloc, scan),
         DataKey::PublishError => publish_error(alloc, scan),
         DataKey::QueryPublisherSequence => query_publisher_sequence(alloc, scan),
-        DataKey::SequenceAnswer => sequence_answer(scan),
-        DataKey::DeletePublisher => delete_publisher(scan),
+        DataKey::SequenceAnswer => sequence_answer(alloc, scan),
+        DataKey::DeletePublisher => delete_publisher(alloc, scan),
         DataKey::Subscribe => subscribe(alloc, scan),
         DataKey::Deliver => deliver(alloc, scan),
         DataKey::Deliver2 => deliver_two(alloc, scan),
-        DataKey::Credit => credit(scan),
-        DataKey::CreditFault => credit_fault(scan),
+        DataKey::Credit => credit(alloc, scan),
+        DataKey::CreditFault => credit_fault(alloc, scan),
         DataKey::StoreOffset => store_offset(alloc, scan),
         DataKey::QueryOffset => query_offset(alloc, scan),
-        DataKey::OffsetAnswer => offset_answer(scan),
-        DataKey::Unsubscribe => unsubscribe(scan),
-        DataKey::Plain(key) => plain(key, scan),
+        DataKey::OffsetAnswer => offset_answer(alloc, scan),
+        DataKey::Unsubscribe => unsubscribe(alloc, scan),
+        DataKey::Plain(key) => plain(alloc, key, scan),
     }
 }
 

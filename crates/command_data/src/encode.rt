@@ -6,10 +6,8 @@ ghost use Rattle.command_fields.specs.Tables.{IsCommand, FitsIn, body_of};
 ghost use Rattle.command_data.specs.Commands.{data_table, data_layout, key_of, fields_of, DataSpells};
 
 use crate::command::DataCommand;
-use crate::put::{
-    put_code, put_credit, put_credit_fault, put_declare, put_deliver, put_deliver_two, put_id,
-    put_items, put_number, put_store, put_subscribe, put_two_texts,
-};
+use crate::put::{put_declare, put_deliver, put_deliver_two, put_subscribe};
+use command_fields::{put_answer, put_three, put_two};
 use frame_wire::{Octets, put_u16};
 use std::alloc::{AllocError, Global};
 
@@ -62,20 +60,20 @@ fn put_fields(out: &mut Octets, command: &DataCommand) -> Result<(), AllocError>
             reference,
             stream,
         } => put_declare(out, *corr, *publisher, reference, stream),
-        DataCommand::Publish { publisher, items } => put_items(out, *publisher, items),
-        DataCommand::PublishConfirm { publisher, items } => put_items(out, *publisher, items),
-        DataCommand::PublishError { publisher, items } => put_items(out, *publisher, items),
+        DataCommand::Publish { publisher, items } => put_two(out, publisher, items),
+        DataCommand::PublishConfirm { publisher, items } => put_two(out, publisher, items),
+        DataCommand::PublishError { publisher, items } => put_two(out, publisher, items),
         DataCommand::QueryPublisherSequence {
             corr,
             reference,
             stream,
-        } => put_two_texts(out, *corr, reference, stream),
+        } => put_three(out, corr, reference, stream),
         DataCommand::SequenceAnswer {
             corr,
             code,
             content,
-        } => put_number(out, *corr, *code, *content),
-        DataCommand::DeletePublisher { corr, publisher } => put_id(out, *corr, *publisher),
+        } => put_answer(out, *corr, *code, content),
+        DataCommand::DeletePublisher { corr, publisher } => put_two(out, corr, publisher),
         DataCommand::Subscribe {
             corr,
             sub,
@@ -95,25 +93,25 @@ fn put_fields(out: &mut Octets, command: &DataCommand) -> Result<(), AllocError>
             header,
             payload,
         } => put_deliver_two(out, *sub, *committed, header, payload),
-        DataCommand::Credit { sub, credit } => put_credit(out, *sub, *credit),
-        DataCommand::CreditFault { code, sub } => put_credit_fault(out, *code, *sub),
+        DataCommand::Credit { sub, credit } => put_two(out, sub, credit),
+        DataCommand::CreditFault { code, sub } => put_two(out, code, sub),
         DataCommand::StoreOffset {
             reference,
             stream,
             offset,
-        } => put_store(out, reference, stream, *offset),
+        } => put_three(out, reference, stream, offset),
         DataCommand::QueryOffset {
             corr,
             reference,
             stream,
-        } => put_two_texts(out, *corr, reference, stream),
+        } => put_three(out, corr, reference, stream),
         DataCommand::OffsetAnswer {
             corr,
             code,
             content,
-        } => put_number(out, *corr, *code, *content),
-        DataCommand::Unsubscribe { corr, sub } => put_id(out, *corr, *sub),
-        DataCommand::Plain { corr, code, .. } => put_code(out, *corr, *code),
+        } => put_answer(out, *corr, *code, content),
+        DataCommand::Unsubscribe { corr, sub } => put_two(out, corr, sub),
+        DataCommand::Plain { corr, code, .. } => put_two(out, corr, code),
     }
 }
 

@@ -6,11 +6,8 @@ ghost use Rattle.command_fields.specs.Tables.{FitsIn};
 ghost use Rattle.command_data.specs.Commands.{data_table, data_layout, key_of, fields_of};
 
 use crate::command::DataCommand;
-use crate::size::{
-    code_size, credit_fault_size, credit_size, declare_size, deliver_size, deliver_two_size,
-    id_size, items_size, number_size, store_size, subscribe_size, two_texts_size,
-};
-use command_fields::GREATEST_BODY;
+use crate::size::{declare_size, deliver_size, deliver_two_size, subscribe_size};
+use command_fields::{GREATEST_BODY, answer_size, size_of_three, size_of_two};
 
 /// Whether the key is one of the protocol's.
 fn is_known(command: &DataCommand) -> bool
@@ -33,20 +30,20 @@ fn fields_size(command: &DataCommand) -> Option<u64>
             reference,
             stream,
         } => declare_size(*corr, *publisher, reference, stream),
-        DataCommand::Publish { publisher, items } => items_size(*publisher, items),
-        DataCommand::PublishConfirm { publisher, items } => items_size(*publisher, items),
-        DataCommand::PublishError { publisher, items } => items_size(*publisher, items),
+        DataCommand::Publish { publisher, items } => size_of_two(publisher, items),
+        DataCommand::PublishConfirm { publisher, items } => size_of_two(publisher, items),
+        DataCommand::PublishError { publisher, items } => size_of_two(publisher, items),
         DataCommand::QueryPublisherSequence {
             corr,
             reference,
             stream,
-        } => two_texts_size(*corr, reference, stream),
+        } => size_of_three(corr, reference, stream),
         DataCommand::SequenceAnswer {
             corr,
             code,
             content,
-        } => number_size(*corr, *code, *content),
-        DataCommand::DeletePublisher { corr, publisher } => id_size(*corr, *publisher),
+        } => answer_size(*corr, *code, content),
+        DataCommand::DeletePublisher { corr, publisher } => size_of_two(corr, publisher),
         DataCommand::Subscribe {
             corr,
             sub,
@@ -66,25 +63,25 @@ fn fields_size(command: &DataCommand) -> Option<u64>
             header,
             payload,
         } => deliver_two_size(*sub, *committed, *header, payload),
-        DataCommand::Credit { sub, credit } => credit_size(*sub, *credit),
-        DataCommand::CreditFault { code, sub } => credit_fault_size(*code, *sub),
+        DataCommand::Credit { sub, credit } => size_of_two(sub, credit),
+        DataCommand::CreditFault { code, sub } => size_of_two(code, sub),
         DataCommand::StoreOffset {
             reference,
             stream,
             offset,
-        } => store_size(reference, stream, *offset),
+        } => size_of_three(reference, stream, offset),
         DataCommand::QueryOffset {
             corr,
             reference,
             stream,
-        } => two_texts_size(*corr, reference, stream),
+        } => size_of_three(corr, reference, stream),
         DataCommand::OffsetAnswer {
             corr,
             code,
             content,
-        } => number_size(*corr, *code, *content),
-        DataCommand::Unsubscribe { corr, sub } => id_size(*corr, *sub),
-        DataCommand::Plain { corr, code, .. } => code_size(*corr, *code),
+        } => answer_size(*corr, *code, content),
+        DataCommand::Unsubscribe { corr, sub } => size_of_two(corr, sub),
+        DataCommand::Plain { corr, code, .. } => size_of_two(corr, code),
     }
 }
 

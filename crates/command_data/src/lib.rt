@@ -11,7 +11,6 @@ mod item;
 mod key;
 mod laws;
 mod put;
-mod shape;
 mod size;
 
 pub use command::DataCommand;

@@ -1,4 +1,4 @@
-//! The lengths of the fields of commands in bytes, one function for each layout; its `ensures` names it. `None` comes
+//! The lengths in bytes of the fields that one command alone has; the `ensures` of each function names them. `None` comes
 //! exactly where the fields have no spelling, or one of more than 4,294,967,295 bytes.
 //! The numbers among the parameters change no length; the clause speaks of them.
 #![tactic(auto, using(command_fields::proofs::SizeLaws::lengths))]
@@ -12,7 +12,7 @@ ghost use Rattle.command_fields.specs.Tables.{last, u8, u16, u32, u64, text, lis
 ghost use Rattle.command_data.specs.Items.{delivered};
 
 use chunk_format::Header;
-use command_fields::{GREATEST_BODY, Measured, OffsetSpec, Property, list_size};
+use command_fields::{Field, GREATEST_BODY, Measured, OffsetSpec, Property, size_or_absent};
 use frame_wire::{Octets, Row, Text};
 
 pub fn declare_size(corr: u32, publisher: u8, reference: &Text, stream: &Text) -> Option<u64>
@@ -20,82 +20,6 @@ pub fn declare_size(corr: u32, publisher: u8, reference: &Text, stream: &Text) -
 {
     let size = 5 + reference.size()? + stream.size()?;
     (size <= GREATEST_BODY).then_some(size)
-}
-
-pub fn two_texts_size(corr: u32, first: &Text, second: &Text) -> Option<u64>
-    ensures { Measures (u32 then text then last text) (corr, (first.now, second.now)) result }
-{
-    let size = 4 + first.size()? + second.size()?;
-    (size <= GREATEST_BODY).then_some(size)
-}
-
-pub fn number_size(corr: u32, code: u16, content: Option<u64>) -> Option<u64>
-    ensures { Measures (u32 then u16 then or_absent (last u64)) (corr, (code, content)) result }
-{
-    match content {
-        None => Some(6),
-        Some(_) => Some(14),
-    }
-}
-
-pub fn id_size(corr: u32, id: u8) -> Option<u64>
-    ensures { Measures (u32 then last u8) (corr, id) result }
-{
-    Some(5)
-}
-
-pub fn code_size(corr: u32, code: u16) -> Option<u64>
-    ensures { Measures (u32 then last u16) (corr, code) result }
-{
-    Some(6)
-}
-
-pub fn credit_size(sub: u8, credit: u16) -> Option<u64>
-    ensures { Measures (u8 then last u16) (sub, credit) result }
-{
-    Some(3)
-}
-
-pub fn credit_fault_size(code: u16, sub: u8) -> Option<u64>
-    ensures { Measures (u16 then last u8) (code, sub) result }
-{
-    Some(3)
-}
-
-pub fn store_size(reference: &Text, stream: &Text, offset: u64) -> Option<u64>
-    ensures { Measures (text then text then last u64) (reference.now, (stream.now, offset)) result }
-{
-    let size = 8 + reference.size()? + stream.size()?;
-    (size <= GREATEST_BODY).then_some(size)
-}
-
-pub fn items_size<T: Measured>(publisher: u8, items: &Row<T>) -> Option<u64>
-    ensures { Measures (u8 then last (list_of T.format)) (publisher, items.now) result }
-{
-    let size = 1 + list_size(items)?;
-    (size <= GREATEST_BODY).then_some(size)
-}
-
-fn offset_size(spec: OffsetSpec) -> Option<u64>
-    ensures { Measures spec_field spec result }
-{
-    match spec {
-        OffsetSpec::Unset => Some(2),
-        OffsetSpec::First => Some(2),
-        OffsetSpec::Last => Some(2),
-        OffsetSpec::Next => Some(2),
-        OffsetSpec::At(_) => Some(10),
-        OffsetSpec::Since(_) => Some(10),
-    }
-}
-
-fn properties_size(properties: &Option<Row<Property>>) -> Option<u64>
-    ensures { Measures (or_absent (last (list_of property_field))) properties.now result }
-{
-    match properties {
-        None => Some(0),
-        Some(properties) => list_size(properties),
-    }
 }
 
 pub fn subscribe_size(
@@ -108,7 +32,7 @@ pub fn subscribe_size(
 ) -> Option<u64>
     ensures { Measures (u32 then u8 then text then spec_field then u16 then or_absent (last (list_of property_field))) (corr, (sub, (stream.now, (spec, (credit, properties.now))))) result }
 {
-    let size = 7 + stream.size()? + offset_size(spec)? + properties_size(properties)?;
+    let size = 7 + stream.size()? + spec.field_size()? + size_or_absent(properties)?;
     (size <= GREATEST_BODY).then_some(size)
 }
 
