@@ -1,11 +1,12 @@
 -- What may happen to a stream.
-use Rattle.std.specs.Prelude.{◌≡◌, ℕ, ℤ, ◌<◌, ◌≤◌, Bool, true, false, not, ◌&&◌, ◌==◌, nat_lt, List, [], ◌∷◌, ◌++◌, map, length, Option, Some, None, Result, Ok, Err}
-use Rattle.std.specs.List.{filter, AllByRecursion}
+use Rattle.std.specs.Prelude.{◌≡◌, ◌⊎◌, ℕ, ℤ, ◌-◌, ◌^◌, ◌<◌, ◌≤◌, Bool, true, false, not, ◌&&◌, ◌==◌, nat_lt, List, [], ◌∷◌, ◌++◌, map, length, position, unwrap_or, Option, Some, None, Result, Ok, Err}
+use Rattle.std.specs.List.{filter, AllByRecursion, Contains}
 use Rattle.chunk_format.specs.declared.entry.Entry.{Entry}
 use Rattle.chunk_format.specs.declared.entry.Entry.TheVariants.{Simple}
 use Rattle.chunk_format.specs.declared.chunk.ChunkKind.{ChunkKind}
 use Rattle.chunk_format.specs.declared.chunk.ChunkKind.TheVariants.{User, Delta, Snapshot}
 use Rattle.chunk_format.specs.declared.chunk.Chunk.{Chunk}
+use Rattle.chunk_format.specs.Chunks.{entry_records}
 use Rattle.chunk_format.specs.Logs.{end_of}
 use Rattle.chunk_format.specs.Tags.{DeltaOffset, delta_bytes}
 use Rattle.command_data.specs.declared.item.Tagged.{Tagged}
@@ -15,6 +16,8 @@ use Rattle.stream_terms.specs.declared.terms.Waits.{Waits}
 use Rattle.stream_terms.specs.declared.terms.Taken.{Taken}
 use Rattle.stream_terms.specs.declared.terms.DeclareFault.{DeclareFault}
 use Rattle.stream_terms.specs.declared.terms.OfferFault.{OfferFault}
+use Rattle.stream_terms.specs.declared.terms.OfferFault.TheVariants as refused
+use Rattle.stream_terms.specs.declared.terms.DeclareFault.TheVariants as closed
 use Rattle.stream_terms.specs.declared.terms.Confirm.{Confirm}
 use Rattle.stream_terms.specs.Views.{StreamView, sequence, name_of, CausedBy, Known}
 
@@ -37,12 +40,18 @@ pub record DeclaresPass (old : StreamView) (session : ℕ) (name : Option (List 
   pub of_stream : p.stream ≡ old.number
   pub of_session : p.session ≡ session
   pub running : old.running ≡ Some p.epoch
+  pub room : length old.passes < 2 ^ 32 - 1
   pub fresh : AllByRecursion (λ (g : Given). g.pass.serial < p.serial) old.passes
   pub new_is : new ≡ record old { passes = old.passes ++ record { pass = p; name = name_of name } ∷ [] }
 
+-- no epoch runs, or the last pass was given, of which there are 4,294,967,295
+abbrev pub DeclareRefused : StreamView → DeclareFault → Type 0
+DeclareRefused old closed.Closed = (old.running ≡ None) ⊎ (2 ^ 32 - 1 ≤ length old.passes)
+DeclareRefused old closed.Memory = Unit {0}
+
 abbrev pub DeclareStep : StreamView → ℕ → Option (List ℕ) → Result Pass DeclareFault → StreamView → Type 0
 DeclareStep old session name (Ok p) new = DeclaresPass old session name p new
-DeclareStep old session name (Err _) new = new ≡ old
+DeclareStep old session name (Err fault) new = DeclareRefused old fault × (new ≡ old)
 
 -- behind those that wait, or ready at once where the list reaches its end already
 abbrev pub put_by : Bool → Waits → StreamView → StreamView
@@ -60,6 +69,22 @@ no_delta User = true
 no_delta Delta = false
 no_delta Snapshot = true
 
+-- a sub-batch of no records
+abbrev pub has_none : Tagged → Bool
+has_none t = entry_records t.entry == 0
+
+-- the pass was given, and its epoch runs
+abbrev pub IsOfUse : StreamView → Pass → Type 0
+IsOfUse v p = (v.running ≡ Some p.epoch) × ((g : Given) × Contains v.passes g × (g.pass ≡ p))
+
+-- Why an offer was refused: the pass is of no use; at the first sub-batch of no records; by a limit, where neither is so.
+abbrev pub OfferRefused : StreamView → Pass → List Tagged → OfferFault → Type 0
+OfferRefused old p items (refused.Stale asked running) = (asked ≡ p.epoch) × (running ≡ unwrap_or old.running 0) × (IsOfUse old p → ⊥)
+OfferRefused old p items (refused.BadName len) = ⊥
+OfferRefused old p items (refused.EmptyBatch place) = IsOfUse old p × (position has_none items ≡ Some place)
+OfferRefused old p items (refused.Limit what most) = IsOfUse old p × (position has_none items ≡ None)
+OfferRefused old p items refused.Memory = Unit {0}
+
 -- The range that was taken begins where all that was taken before ends, which is at or past the end of the list and of all that waits. What ends
 -- within the list waits no more: such an offer added nothing, and its ids are not above the greatest.
 pub record OfferTaken (old : StreamView) (p : Pass) (items : List Tagged) (t : Taken) (new : StreamView) : Type 0 where
@@ -68,6 +93,7 @@ pub record OfferTaken (old : StreamView) (p : Pass) (items : List Tagged) (t : T
   pub passed : wait.given.pass ≡ p
   pub known : Known old.passes wait
   pub running : old.running ≡ Some p.epoch
+  pub whole : position has_none items ≡ None
   pub ids : wait.ids ≡ map item_id items
   pub entries : wait.entries ≡ map item_entry items
   pub begins : wait.from ≡ end_of (sequence old)
@@ -82,7 +108,7 @@ pub record OfferTaken (old : StreamView) (p : Pass) (items : List Tagged) (t : T
 
 abbrev pub OfferStep : StreamView → Pass → List Tagged → Result Taken OfferFault → StreamView → Type 0
 OfferStep old p items (Ok t) new = OfferTaken old p items t new
-OfferStep old p items (Err _) new = new ≡ old
+OfferStep old p items (Err fault) new = OfferRefused old p items fault × (new ≡ old)
 
 -- the chunk that stores an offset for a name
 abbrev pub offset_chunk : ℕ → ℤ → ℕ → List ℕ → ℕ → Chunk
@@ -110,9 +136,24 @@ pub record OffsetTaken (old : StreamView) (name : Option (List ℕ)) (offset : �
   pub end_is : t.end ≡ end_of (sequence new)
   pub accepted : t.accepted ≡ 1
 
+-- a name of 1 to 255 bytes
+abbrev pub names_one : Option (List ℕ) → Bool
+names_one name = nat_lt 0 (length (name_of name)) && nat_lt (length (name_of name)) 256
+
+abbrev pub IsRunning : StreamView → Type 0
+IsRunning v = (epoch : ℕ) × (v.running ≡ Some epoch)
+
+-- Why an offset was refused: no epoch runs; by its name; by a limit, where neither is so.
+abbrev pub OffsetRefused : StreamView → Option (List ℕ) → OfferFault → Type 0
+OffsetRefused old name (refused.Stale asked running) = (asked ≡ 0) × (running ≡ 0) × (old.running ≡ None)
+OffsetRefused old name (refused.BadName len) = IsRunning old × (names_one name ≡ false) × (len ≡ length (name_of name))
+OffsetRefused old name (refused.EmptyBatch place) = ⊥
+OffsetRefused old name (refused.Limit what most) = IsRunning old × (names_one name ≡ true)
+OffsetRefused old name refused.Memory = Unit {0}
+
 abbrev pub OffsetStep : StreamView → Option (List ℕ) → ℕ → Result Taken OfferFault → StreamView → Type 0
 OffsetStep old name offset (Ok t) new = OffsetTaken old name offset t new
-OffsetStep old name offset (Err _) new = new ≡ old
+OffsetStep old name offset (Err fault) new = OffsetRefused old name fault × (new ≡ old)
 
 abbrev pub is_of : ℕ → Waits → Bool
 is_of session w = w.given.pass.session == session
