@@ -1,5 +1,5 @@
 -- One that left is in no group.
-use Rattle.std.proofs.Common.{◌≡◌, ◌≤◌, ◌+◌, ℕ, Bool, true, false, not, cond, List, [], ◌∷◌, Option, Some, None, filter, count_by, sum_by, refl, ap, ◌∙◌, arith}
+use Rattle.std.proofs.Common.{◌≡◌, ◌≤◌, ◌+◌, ℕ, Bool, true, false, not, cond, List, [], ◌∷◌, Option, None, filter, count_by, sum_by, refl, ap, arith}
 use Rattle.std.specs.List.{list_any, find}
 use Rattle.std.proofs.lemmas.Grind.{common_steps}
 use Rattle.active_groups.specs.declared.consumer.ConsumerId.{ConsumerId}

@@ -195,7 +195,7 @@ here : (seats : List Seat) (consumer : ConsumerId) → state_in seats consumer �
 here [] consumer h = refl
 here (s ∷ seats) consumer h = grind (arith, common_steps, here seats consumer)
 
-not_at : (consumer : ConsumerId) (g : Seating) (gs : List Seating) (b : Bool) → sits consumer g ≡ b → state_at (cond b (Some g) (find (sits consumer) gs)) consumer ≡ None → (b ≡ false) × (state_of gs consumer ≡ None)
+pub not_at : (consumer : ConsumerId) (g : Seating) (gs : List Seating) (b : Bool) → sits consumer g ≡ b → state_at (cond b (Some g) (find (sits consumer) gs)) consumer ≡ None → (b ≡ false) × (state_of gs consumer ≡ None)
 not_at consumer g gs true e h = absurd (let no = sym e ∙ here g.seats consumer h in cc)
 not_at consumer g gs false e h = (refl, h)
 

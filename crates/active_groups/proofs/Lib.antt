@@ -3,3 +3,4 @@ pub mod Kept
 pub mod Calls
 pub mod Settles
 pub mod Gone
+pub mod Waits

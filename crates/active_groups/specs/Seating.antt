@@ -1,7 +1,7 @@
 -- Groups of consumers: who sits where, in which state.
 use Rattle.std.specs.Prelude.{◌==◌, ◌≤◌, ℕ, Bool, true, false, ◌&&◌, List, Option, Some, None, count_by}
 use Rattle.std.specs.List.{list_any, find}
-use Rattle.std.specs.Option.{option_map}
+use Rattle.std.specs.Option.{option_map, option_eq}
 use Rattle.std.specs.Cmp.Lexicographic.{pointwise}
 use Rattle.active_groups.specs.declared.consumer.ConsumerId.{ConsumerId}
 use Rattle.active_groups.specs.declared.consumer.GroupState.{GroupState}
@@ -21,10 +21,7 @@ abbrev pub same_bytes : List ℕ → List ℕ → Bool
 same_bytes a b = pointwise (λ x y. x == y) a b
 
 abbrev pub same_text : Option (List ℕ) → Option (List ℕ) → Bool
-same_text None None = true
-same_text None (Some b) = false
-same_text (Some a) None = false
-same_text (Some a) (Some b) = same_bytes a b
+same_text a b = option_eq same_bytes a b
 
 abbrev pub is_of : ℕ → Option (List ℕ) → Seating → Bool
 is_of stream name g = (g.stream == stream) && same_text g.name name

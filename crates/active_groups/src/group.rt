@@ -7,7 +7,6 @@ ghost use Rattle.active_groups.specs.Changes.{at_place, with_state, change_at, c
 ghost use Rattle.active_groups.specs.Steps.{new_group, with_consumer, without, is_awaited};
 
 use crate::consumer::{Change, ConsumerId, GroupState, Seat};
-use crate::text::{copy_text, is_same_text};
 use frame_wire::Text;
 use std::alloc::{AllocError, Global};
 use std::marker::Model;
@@ -72,7 +71,7 @@ impl Group {
     pub fn new(alloc: Global, stream: u32, name: &Text, index: u32) -> Result<Group, AllocError>
         ensures { IfOk result (λ g. g ≡ new_group stream name.now index) }
     {
-        let name = copy_text(alloc, name)?;
+        let name = name.clone()?;
         Ok(Group {
             stream,
             name,
@@ -85,7 +84,7 @@ impl Group {
     pub fn is_of(&self, stream: u32, name: &Text) -> bool
         ensures { result ≡ is_of stream name.now self.now }
     {
-        self.stream == stream && is_same_text(&self.name, name)
+        self.stream == stream && self.name == *name
     }
 
     /// Whether a consumer is in the group.

@@ -1,6 +1,6 @@
 //! All groups.
 
-ghost use Rattle.std.specs.Prelude.{◌≡◌, [], ◌<◌, length, filter, position, not, None, IsTrue, IfOk, IfSome, IfNone, OnOk, OnErr};
+ghost use Rattle.std.specs.Prelude.{◌≡◌, [], ◌<◌, length, filter, position, not, Some, None, IsTrue, IfOk, IfSome, IfNone, OnOk, OnErr};
 ghost use Rattle.active_groups.specs.Seating.{is_of, sits, state_of};
 ghost use Rattle.active_groups.specs.Changes.{tells};
 ghost use Rattle.active_groups.specs.Steps.{GroupStep, Joins, Leaves, Polls, Answers, ChangesAt, TellsAt, AnswersAt, new_group, with_consumer, without, has_seats, AreGroups};
@@ -133,6 +133,7 @@ impl Groups {
     ) -> Result<(), AllocError>
         requires { state_of self.old consumer ≡ None }
         ensures ok { OnOk result (GroupStep self.old (Joins stream name.now index consumer) self.new) }
+        ensures waits { OnOk result (state_of self.new consumer ≡ Some GroupState.Waiting) }
         ensures err { OnErr result (self.new ≡ self.old) }
     {
         match group_named(self.groups.as_slice(), stream, name) {

@@ -6,7 +6,6 @@ mod consumer;
 mod group;
 mod groups;
 mod laws;
-mod text;
 
 pub use consumer::{Change, ConsumerId, GroupState};
 pub use groups::Groups;
