@@ -1,0 +1,3 @@
+mod Parts
+mod Whole
+pub mod Found
