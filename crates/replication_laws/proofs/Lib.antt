@@ -1,0 +1,17 @@
+pub mod Logs
+pub mod Meetings
+pub mod Frame
+pub mod Carry
+pub mod Sounds
+pub mod Followers
+pub mod Walks
+pub mod Leaders
+pub mod Elections
+pub mod Commits
+pub mod Moves
+pub mod Takings
+pub mod Finishings
+pub mod Coordinating
+pub mod Happenings
+pub mod Offerings
+pub mod Joined

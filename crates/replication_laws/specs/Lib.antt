@@ -1,0 +1,4 @@
+pub mod Majorities
+pub mod Cluster
+pub mod Events
+pub mod Soundness
