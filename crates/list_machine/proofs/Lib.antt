@@ -1,0 +1,9 @@
+pub mod Lists
+pub mod Tagging
+pub mod Growing
+pub mod Reading
+pub mod Holding
+pub mod Telling
+pub mod Firsts
+pub mod Running
+pub mod Worked

@@ -1,0 +1,15 @@
+pub mod Items
+pub mod Streams
+pub mod Commits
+pub mod Publishing
+pub mod Subscribing
+pub mod Moves
+pub mod Machines
+pub mod Lines
+pub mod Answers
+pub mod Sends
+pub mod Steps
+pub mod Transcripts
+pub mod Laws
+pub mod Discipline
+pub mod Examples

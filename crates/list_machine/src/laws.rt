@@ -1,0 +1,50 @@
+//! Laws of the list machine, over every run from the machine with nothing.
+
+ghost use Rattle.std.specs.Prelude.{◌≡◌, ℕ, List, Option};
+ghost use Rattle.std.specs.List.{AllByRecursion};
+ghost use Rattle.chunk_format.specs.Logs.{GoesOn, IsLog};
+ghost use Rattle.command_data.specs.declared.item.Tagged.{Tagged};
+ghost use Rattle.list_machine.specs.Streams.{Stream, Subscription, no_stream};
+ghost use Rattle.list_machine.specs.Moves.{Move, StreamRun};
+ghost use Rattle.list_machine.specs.Machines.{Machine, empty_machine};
+ghost use Rattle.list_machine.specs.Steps.{Event, MachineRun, moves_at};
+ghost use Rattle.list_machine.specs.Transcripts.{CommitLines};
+ghost use Rattle.list_machine.specs.Discipline.{Disciplined, DisciplinedRun};
+ghost use Rattle.list_machine.specs.Examples.{HasRun, the_worked_run};
+ghost use Rattle.list_machine.specs.Laws.{RowsRight, ExactlyOnce, DeliversRun, ConfirmedBy, tally_of, no_tally, Tallied};
+
+/// The chunks of a stream's commit lines are its list, which is contiguous from 0 with epochs that don't fall; and over
+/// each further run, also where all stops, it only grows. It does nothing.
+pub fn lists_only_grow()
+    ensures is { (events : List Event) (new : Machine) (number : ℕ) → MachineRun empty_machine events new → (new.streams number).chunks ≡ CommitLines number events }
+    ensures log { (events : List Event) (new : Machine) (number : ℕ) → MachineRun empty_machine events new → IsLog (new.streams number).chunks }
+    ensures grows { (events : List Event) (old new : Machine) (number : ℕ) → MachineRun old events new → GoesOn (old.streams number).chunks (new.streams number).chunks }
+{}
+
+/// The ids of each name rise, nothing stands that wasn't sent, and each entry stands without a tag at least as often as it
+/// was confirmed. It does nothing.
+pub fn rows_are_right()
+    ensures { (events : List Event) (new : Machine) (number : ℕ) → MachineRun empty_machine events new → RowsRight (new.streams number) }
+{}
+
+/// What each stream did along a run is a run of moves from a stream not made. Where it is disciplined for a name, the items
+/// of the name are a beginning of the publisher's list, and each item of each frame that was confirmed under the name is of
+/// that list and stands once. The same where the declarations that the state has are disciplined. It does nothing.
+pub fn confirmed_stand_once()
+    ensures moves { (events : List Event) (new : Machine) (number : ℕ) (run : MachineRun empty_machine events new) → StreamRun no_stream (moves_at number empty_machine events new run) (new.streams number) }
+    ensures once { (name : List ℕ) (list : List Tagged) (moves : List Move) (new : Stream) (run : StreamRun no_stream moves new) → DisciplinedRun name list moves new run → ExactlyOnce name list new.chunks (ConfirmedBy moves) }
+    ensures known { (name : List ℕ) (list : List Tagged) (moves : List Move) (new : Stream) → StreamRun no_stream moves new → Disciplined name list new.declarations → ExactlyOnce name list new.chunks (ConfirmedBy moves) }
+{}
+
+/// What each subscription was sent since its last start is the gap-free run of the user chunks of its stream's list from
+/// there on, and all that it was sent is at most the credits granted. It does nothing.
+pub fn deliveries_are_runs()
+    ensures told { (events : List Event) (new : Machine) (number : ℕ) (run : MachineRun empty_machine events new) → AllByRecursion (λ (s : Subscription). tally_of s ≡ Tallied s.connection s.id no_tally (moves_at number empty_machine events new run)) (new.streams number).subscriptions }
+    ensures runs { (events : List Event) (new : Machine) (number : ℕ) → MachineRun empty_machine events new → AllByRecursion (DeliversRun (new.streams number).chunks) (new.streams number).subscriptions }
+{}
+
+/// Written out: a stream is made and opens, a publisher is declared, its item is committed and confirmed, a subscription
+/// gets it, all stops, and another epoch opens. It does nothing.
+pub fn a_worked_run_stands()
+    ensures { HasRun the_worked_run }
+{}
