@@ -88,7 +88,7 @@ coordinator_next g w o up co ms a = alike_next o w (changed w up co ms) g g a re
 
 -- ---- an election begins
 
-untold_count : (n : ℕ) → length (untold n) ≡ n
+pub untold_count : (n : ℕ) → length (untold n) ≡ n
 untold_count zero = refl
 untold_count (suc n) = ap suc (untold_count n)
 

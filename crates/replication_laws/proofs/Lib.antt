@@ -15,3 +15,7 @@ pub mod Coordinating
 pub mod Happenings
 pub mod Offerings
 pub mod Joined
+pub mod Properties
+pub mod Starts
+pub mod Reopened
+pub mod Snapshots

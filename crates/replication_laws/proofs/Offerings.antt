@@ -17,6 +17,7 @@ use Rattle.epoch_coordinator.specs.MemberSteps.{offered, offered_by, queued_by, 
 use Rattle.epoch_coordinator.specs.Offers.{Item, user_chunk, offset_chunk, accepted, since_snapshot, snapshot_every, with_snapshot, most_entries, laid, chunk_count, offered_chunks, stored_chunks}
 use Rattle.replication_laws.specs.Cluster.{Seat, ClusterState, seat, member, IsMember, placed, put, is_opened, RunsWith}
 use Rattle.replication_laws.specs.Events.{all_offered, gets, OfferStep, Offer, StoreOffset}
+use Rattle.replication_laws.specs.Properties.{KeepsAt}
 use Rattle.replication_laws.specs.Soundness.{Tree, Follows, JobHolds, LeaderLine, LineHolds, Sound, IsCommitted}
 use Rattle.replication_laws.proofs.Sounds.{all_join, seat_put, seat_else, member_put, member_else, count_put, After}
 use Rattle.replication_laws.proofs.Followers.{is_up}
@@ -232,7 +233,7 @@ leader_line g w o k s up opens =
     let e = ap last_epoch parted in
     omega (arith, e, all)
 
-gets_goes : (g : Tree) (w : ClusterState) (o epoch k : ℕ) (chunks : List Chunk) → Sound g o w → RunsWith w epoch k → GoOnIn epoch (sequence_of (member w k)) chunks → OfferGoes g o w (gets k chunks w)
+abbrev gets_goes : (g : Tree) (w : ClusterState) (o epoch k : ℕ) (chunks : List Chunk) → Sound g o w → RunsWith w epoch k → GoOnIn epoch (sequence_of (member w k)) chunks → OfferGoes g o w (gets k chunks w)
 gets_goes g w o epoch k chunks s runs on =
     let lt = runs.is_member in
     let t = took_all g o k chunks w s lt runs.leader_up runs.is_open on.linked (subst (λ (p : ℕ). AllByRecursion (λ (c : Chunk). c.epoch ≡ p) chunks) (sym runs.promised) on.each) in
@@ -273,9 +274,21 @@ gets_goes g w o epoch k chunks s runs on =
     }
 
 pub offer_goes : (g : Tree) (o now : ℕ) (w w' : ClusterState) → Sound g o w → OfferStep now w w' → OfferGoes g o w w'
-offer_goes g o now w w' s (Offer epoch k name items runs all eq) =
+offer_goes g o now w w' s (Offer epoch k name items runs right all eq) =
     let low = leader_line g w o k s runs.leader_up runs.is_open in
     subst (OfferGoes g o w) (sym eq) (gets_goes g w o epoch k _ s runs (offered_goes epoch (stamp_at now) name (sequence_of (member w k)) items (omega (arith, low, runs.promised)) all))
 offer_goes g o now w w' s (StoreOffset epoch k name offset runs all eq) =
     let low = leader_line g w o k s runs.leader_up runs.is_open in
     subst (OfferGoes g o w) (sym eq) (gets_goes g w o epoch k _ s runs (stored_goes epoch (stamp_at now) name offset (sequence_of (member w k)) (omega (arith, low, runs.promised)) all))
+
+-- the same, with a property that the leader's sequence keeps
+pub offer_chunks : (g : Tree) (o now : ℕ) (w w' : ClusterState) → Sound g o w → (step : OfferStep now w w') → (Q : List Chunk → Type 0) → KeepsAt Q step
+    → (x : OfferGoes g o w w') × (Q (sequence_of (member w x.leader)) → Q (sequence_of (member w x.leader) ++ x.chunks))
+offer_chunks g o now w w' s (Offer epoch k name items runs right all eq) Q keeps =
+    let low = leader_line g w o k s runs.leader_up runs.is_open in
+    let x = gets_goes g w o epoch k (offered_chunks epoch (stamp_at now) name (sequence_of (member w k)) items) s runs (offered_goes epoch (stamp_at now) name (sequence_of (member w k)) items (omega (arith, low, runs.promised)) all) in
+    subst (λ (y : ClusterState). (x : OfferGoes g o w y) × (Q (sequence_of (member w x.leader)) → Q (sequence_of (member w x.leader) ++ x.chunks))) (sym eq) (x, keeps)
+offer_chunks g o now w w' s (StoreOffset epoch k name offset runs all eq) Q keeps =
+    let low = leader_line g w o k s runs.leader_up runs.is_open in
+    let x = gets_goes g w o epoch k (stored_chunks epoch (stamp_at now) name offset (sequence_of (member w k))) s runs (stored_goes epoch (stamp_at now) name offset (sequence_of (member w k)) (omega (arith, low, runs.promised)) all) in
+    subst (λ (y : ClusterState). (x : OfferGoes g o w y) × (Q (sequence_of (member w x.leader)) → Q (sequence_of (member w x.leader) ++ x.chunks))) (sym eq) (x, keeps)

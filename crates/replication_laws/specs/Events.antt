@@ -1,5 +1,5 @@
 -- What happens to a stream: its events, one case each, and offers.
-use Rattle.std.specs.Prelude.{◌≡◌, ℕ, zero, suc, ◌<◌, ◌⊎◌, Bool, true, false, if◌then◌else◌, nat_lt, List, [], ◌∷◌, ◌++◌, length, Option, Some, None}
+use Rattle.std.specs.Prelude.{◌≡◌, ℕ, zero, suc, ◌^◌, ◌<◌, ◌⊎◌, Bool, true, false, if◌then◌else◌, nat_lt, List, [], ◌∷◌, ◌++◌, length, Option, Some, None}
 use Rattle.std.specs.List.{All}
 use Rattle.chunk_format.specs.declared.chunk.Chunk.{Chunk}
 use Rattle.chunk_format.specs.Chunks.{IsChunk}
@@ -146,10 +146,15 @@ all_offered (c ∷ chunks) m = all_offered chunks (offered c m)
 abbrev pub gets : ℕ → List Chunk → ClusterState → ClusterState
 gets k chunks w = put w k (record { up = true; state = all_offered chunks (member w k) })
 
+-- what is offered: a name of at most 255 bytes, and ids below 2 ^ 64
+pub record IsOffer (name : List ℕ) (items : List Item) : Type 0 where
+  pub name_fits : length name < 2 ^ 8
+  pub ids_fit : All (λ (item : Item). item.id < 2 ^ 64) items
+
 -- What the open leader of the running epoch takes, at a moment in milliseconds. Its chunks have a spelling.
 pub data OfferStep (now : ℕ) (w w' : ClusterState) : Type 0 where
   -- items of a publisher, whose name is empty where it has none
-  Offer : (epoch k : ℕ) (name : List ℕ) (items : List Item) → RunsWith w epoch k
+  Offer : (epoch k : ℕ) (name : List ℕ) (items : List Item) → RunsWith w epoch k → IsOffer name items
       → All IsChunk (offered_chunks epoch (stamp_at now) name (sequence_of (member w k)) items)
       → w' ≡ gets k (offered_chunks epoch (stamp_at now) name (sequence_of (member w k)) items) w → OfferStep now w w'
   -- a consumer's stored offset

@@ -2,3 +2,5 @@ pub mod Majorities
 pub mod Cluster
 pub mod Events
 pub mod Soundness
+pub mod Properties
+pub mod Openings

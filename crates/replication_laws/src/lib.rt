@@ -2,10 +2,17 @@
 //! comes back. Each function does nothing; its contract is the law.
 #![tactic(auto)]
 
-mod laws;
+mod event_laws;
+mod opening_laws;
+mod property_laws;
 
-pub use laws::{
+pub use event_laws::{
     events_keep_soundness, kept_lists_stay_kept, members_are_sound_before_their_commit,
     the_committed_list_begins_the_open_leaders_log, the_committed_list_only_grows,
     the_committed_list_reaches_what_is_due,
+};
+pub use opening_laws::{electors_are_flags, openings_are_sound, what_is_left_is_opened_again};
+pub use property_laws::{
+    IdsRise, LogProperty, SnapshotsAreTruthful, ids_rise, openings_have_the_property,
+    properties_of_logs_stay, properties_that_offers_keep, snapshots_are_truthful,
 };

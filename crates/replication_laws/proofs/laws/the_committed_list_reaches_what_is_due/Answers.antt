@@ -1,4 +1,0 @@
-use Rattle.replication_laws.proofs.laws.the_committed_list_reaches_what_is_due.Goals as goal
-
-pub returns : goal.returns
-returns c opened k w s = s.reached k
