@@ -1,12 +1,12 @@
 -- What a declaration knew is what was confirmed before its first item: so discipline of a run is one of its state.
-use Rattle.std.proofs.Common.{◌≡◌, ℕ, ◌+◌, ◌⊎◌, Bool, true, false, List, [], ◌∷◌, ◌++◌, map, Option, Some, refl, sym, ap, subst, ◌∙◌, inl, inr}
+use Rattle.std.proofs.Common.{◌≡◌, ℕ, ◌+◌, ◌⊎◌, Bool, true, false, List, [], ◌∷◌, ◌++◌, map, refl, sym, ap, subst, ◌∙◌, inl, inr}
 use Rattle.std.specs.Prelude.{flat_map}
 use Rattle.std.specs.List.{AllByRecursion}
 use Rattle.command_data.specs.declared.item.Tagged.{Tagged}
 use Rattle.list_machine.specs.Streams.{Frame, Confirmed, Declaration, Stream, no_stream, items_of}
 use Rattle.list_machine.specs.Publishing.{Declared, turned, known_by, Waiting, answered, closed, closed_of}
 use Rattle.list_machine.specs.Moves.{Move, begins, finishes, commits, declares, undeclares, publishes, refuses, confirms, subscribes, unsubscribes, asks, starts, rests, grants, delivers, stores, leaves, forgets, MoveStep, StreamRun}
-use Rattle.list_machine.specs.Discipline.{IsConfirmed, RunsIn, IsDisciplined, Disciplined, place_behind, AllAt, FirstHolds, FirstsHold, IsRunBehind, DisciplinedRun}
+use Rattle.list_machine.specs.Discipline.{IsConfirmed, IsDisciplined, Disciplined, place_behind, AllAt, FirstHolds, FirstsHold, IsRunBehind, DisciplinedRun}
 use Rattle.list_machine.proofs.Holding.{items_stay}
 
 all_at_push : (P : ℕ → Declaration → Type 0) (place : ℕ) (ds : List Declaration) (d : Declaration) → ((n : ℕ) → P n d) → AllAt P place ds → AllAt P place (ds ++ d ∷ [])

@@ -57,7 +57,7 @@ sent_grows name (d ∷ ds) (e ∷ es) x g (inr s) = inr (sent_grows name ds es x
 pub all_sent_grow : (name : List ℕ) (old new : List Declaration) (items : List Tagged) → AllGrow old new → AllByRecursion (IsSentBy name old) items → AllByRecursion (IsSentBy name new) items
 all_sent_grow name old new items g s = all_weaker (IsSentBy name old) (IsSentBy name new) (λ x. sent_grows name old new x g) items s
 
-entries_join : (xs ys : List Tagged) → entries_of (xs ++ ys) ≡ entries_of xs ++ entries_of ys
+pub entries_join : (xs ys : List Tagged) → entries_of (xs ++ ys) ≡ entries_of xs ++ entries_of ys
 entries_join [] ys = refl
 entries_join (x ∷ xs) ys = ap (λ (l : List Entry). x.entry ∷ l) (entries_join xs ys)
 

@@ -7,13 +7,13 @@ use Rattle.std.proofs.lemmas.Grind.{flat_map-append}
 use Rattle.chunk_format.specs.declared.entry.Entry.{Entry}
 use Rattle.chunk_format.specs.declared.chunk.Chunk.{Chunk}
 use Rattle.chunk_format.specs.Tags.{DeltaEntry, DeltaSequence, DeltaOffset}
-use Rattle.chunk_format.specs.LogRows.{LogRow, chunk_rows, Rows}
+use Rattle.chunk_format.specs.LogRows.{chunk_rows, Rows}
 use Rattle.chunk_format.specs.Logs.{IsLog, next_above, bare_of, tally, chunk_deltas, deltas_of}
 use Rattle.chunk_format.proofs.LinkLaws.{linked_push}
 use Rattle.chunk_format.proofs.BareLaws.{tally_join, bare_join}
 use Rattle.command_fields.specs.declared.offset.OffsetSpec.{OffsetSpec}
 use Rattle.command_data.specs.declared.item.Tagged.{Tagged}
-use Rattle.list_machine.specs.Items.{items_by, items_in, AnyByRecursion, IsIn, Rises, IsReached, AreReached, AtMostAsOften}
+use Rattle.list_machine.specs.Items.{items_by, items_in, IsIn, Rises, IsReached, AreReached, AtMostAsOften}
 use Rattle.list_machine.specs.Streams.{Frame, Confirmed, Declaration, Activity, waiting, Subscription, StoredOffset, Life, Stream, no_stream, items_of, unnamed_by, sent_unnamed, confirmed_unnamed, Counted}
 use Rattle.list_machine.specs.Commits.{WasSent, CommitStep}
 use Rattle.list_machine.specs.Publishing.{DeclareStep, Declared, turned, UndeclareStep, known_by, PublishStep, RefuseStep, Waiting, answered, MayConfirm, ConfirmStep, closed, closed_of}

@@ -7,3 +7,6 @@ pub mod Telling
 pub mod Firsts
 pub mod Running
 pub mod Worked
+pub mod Leading
+pub mod Counting
+pub mod Refusing

@@ -1,5 +1,5 @@
 -- Lists of items: what stands in them, and what comes next.
-use Rattle.std.proofs.Common.{true, false, ◌≡◌, ◌&&◌, ℕ, ◌==◌, ◌<◌, ◌≤◌, Bool, cond, List, [], ◌∷◌, ◌++◌, refl, sym, ap, subst, ◌∙◌, inl, inr, eq-eqb, arith}
+use Rattle.std.proofs.Common.{true, false, ◌≡◌, ◌&&◌, ℕ, ◌==◌, ◌<◌, Bool, cond, List, [], ◌∷◌, ◌++◌, refl, sym, ap, subst, ◌∙◌, inl, inr, eq-eqb, arith}
 use Rattle.std.specs.Prelude.{count_by}
 use Rattle.std.specs.List.{AllByRecursion}
 use Rattle.std.proofs.lemmas.List.Sums.{sum_by-cons}
@@ -7,7 +7,7 @@ use Rattle.std.proofs.lemmas.Bool.{eqb-true}
 use Rattle.std.proofs.lemmas.Bool.Decides.{eqb_tells}
 use Rattle.chunk_format.specs.Logs.{GoesOn, same_name}
 use Rattle.command_data.specs.declared.item.Tagged.{Tagged}
-use Rattle.list_machine.specs.Items.{AnyByRecursion, IsIn, Rises, IsReached, AreReached, IsAbove}
+use Rattle.list_machine.specs.Items.{AnyByRecursion, Rises, IsReached, AreReached}
 
 -- ---- some and all
 

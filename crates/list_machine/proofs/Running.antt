@@ -3,21 +3,20 @@ use Rattle.std.proofs.Common.{◌≡◌, ℕ, ◌==◌, ◌+◌, ◌⊎◌, Bool
 use Rattle.std.specs.Prelude.{flat_map}
 use Rattle.std.specs.List.{AllByRecursion}
 use Rattle.std.proofs.lemmas.List.{append-nil}
-use Rattle.std.proofs.lemmas.Grind.{flat_map-append}
 use Rattle.chunk_format.specs.declared.chunk.Chunk.{Chunk}
 use Rattle.chunk_format.specs.Logs.{GoesOn}
 use Rattle.script_text.specs.declared.script.ScriptLine.{ScriptLine}
 use Rattle.script_text.specs.declared.script.ScriptLine.TheVariants.{Create, Connect, Prepare, Give, Poll, Leave, Tick, Elect, Deliver, Lose, Perform, Stop, Restart, Fail, Settle, Inspect, StopAll}
 use Rattle.command_all.specs.declared.command.Command.{Command}
 use Rattle.command_data.specs.declared.item.Tagged.{Tagged}
-use Rattle.list_machine.specs.Items.{items_in, IsIn, AnyByRecursion, IsReached, AreReached}
-use Rattle.list_machine.specs.Streams.{Confirmed, Declaration, Subscription, Stream, no_stream, items_of}
+use Rattle.list_machine.specs.Items.{items_in, IsIn, IsReached, AreReached}
+use Rattle.list_machine.specs.Streams.{Confirmed, Declaration, Stream, no_stream, items_of}
 use Rattle.list_machine.specs.Moves.{Move, begins, finishes, commits, declares, undeclares, publishes, refuses, confirms, subscribes, unsubscribes, asks, starts, rests, grants, delivers, stores, leaves, forgets, MoveStep, StreamRun}
-use Rattle.list_machine.specs.Machines.{Change, adds, drops, Machine, empty_machine, Moves, only, everywhere, begun, finished, changed}
+use Rattle.list_machine.specs.Machines.{Change, adds, drops, Machine, empty_machine, Moves, only, begun, changed}
 use Rattle.list_machine.specs.Lines.{Reads}
 use Rattle.list_machine.specs.Answers.{Act, declare, undeclare, publish, refuse, subscribe, unsubscribe, start, rest, grant, store, move_of, Outcome, nothing, acts, changes, doubts, agrees, closes, moves_by}
 use Rattle.list_machine.specs.Sends.{IsGone, Sends, Confirms, Delivers, Loses, Asks, Tunes, Beats, SendStep, Owed, Unasked}
-use Rattle.list_machine.specs.Steps.{Event, read, handled, misread, made, refused, found, committed, sent, ended, told, Does, MachineStep, MachineRun, moves_at}
+use Rattle.list_machine.specs.Steps.{Event, read, handled, misread, made, refused, found, committed, sent, ended, told, Does, MachineRun, moves_at}
 use Rattle.list_machine.specs.Transcripts.{committed_in, CommitLines}
 use Rattle.list_machine.specs.Discipline.{RunsIn, IsDisciplined, Disciplined}
 use Rattle.list_machine.specs.Laws.{IsSentBy, RowsRight, StandsOnce, ExactlyOnce, DeliversRun, ConfirmedBy}

@@ -1,5 +1,5 @@
 -- What a committed chunk adds to the items of a name, and to the entries without a tag.
-use Rattle.std.proofs.Common.{◌≡◌, ℕ, ◌<◌, ◌≤◌, ◌⊎◌, Bool, true, false, cond, List, [], ◌∷◌, ◌++◌, Option, Some, None, refl, sym, ap, subst, ◌∙◌, inl, inr, append_assoc}
+use Rattle.std.proofs.Common.{◌≡◌, ℕ, ◌<◌, ◌⊎◌, Bool, true, false, cond, List, [], ◌∷◌, ◌++◌, Option, Some, None, refl, sym, ap, subst, ◌∙◌, inl, inr, append_assoc}
 use Rattle.std.specs.List.{AllByRecursion, flat_map}
 use Rattle.std.proofs.lemmas.List.{append-nil}
 use Rattle.std.proofs.lemmas.Grind.{flat_map-append}
@@ -8,7 +8,7 @@ use Rattle.chunk_format.specs.declared.chunk.Chunk.{Chunk}
 use Rattle.chunk_format.specs.LogRows.{Tag, LogRow, chunk_rows, Rows}
 use Rattle.chunk_format.specs.Logs.{same_name, bare}
 use Rattle.command_data.specs.declared.item.Tagged.{Tagged}
-use Rattle.list_machine.specs.Items.{item_by, items_by, AnyByRecursion, IsIn, Rises, IsReached, AreReached, IsAbove}
+use Rattle.list_machine.specs.Items.{item_by, items_by, AnyByRecursion, IsIn, Rises, IsReached, AreReached}
 use Rattle.list_machine.specs.Streams.{Confirmed, Declaration, items_of}
 use Rattle.list_machine.specs.Commits.{SentInOrder, MayFollow, AllFollow}
 use Rattle.list_machine.specs.Discipline.{IsConfirmed, RunsIn, IsDisciplined, Disciplined}
@@ -24,8 +24,8 @@ tags_append name xs ys = flat_map-append (λ (row : LogRow). item_by name row.en
 pub tags_more : (name : List ℕ) (chunks : List Chunk) (chunk : Chunk) → items_by name (Rows (chunks ++ chunk ∷ [])) ≡ items_by name (Rows chunks) ++ items_by name (chunk_rows chunk)
 tags_more name chunks chunk = ap (items_by name) (rows_push chunks chunk) ∙ tags_append name (Rows chunks) (chunk_rows chunk)
 
-pub untagged_append : (xs ys : List LogRow) → flat_map bare (xs ++ ys) ≡ flat_map bare xs ++ flat_map bare ys
-untagged_append xs ys = flat_map-append bare xs ys
+pub bare_append : (xs ys : List LogRow) → flat_map bare (xs ++ ys) ≡ flat_map bare xs ++ flat_map bare ys
+bare_append xs ys = flat_map-append bare xs ys
 
 -- the item of a row with this tag
 abbrev pub tagged : Tag → Entry → Tagged

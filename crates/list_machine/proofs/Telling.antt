@@ -1,11 +1,10 @@
 -- What a stream keeps of its subscriptions and confirms is what its moves did.
-use Rattle.std.proofs.Common.{◌≡◌, ℕ, ◌==◌, ◌&&◌, ◌+◌, not, Bool, true, false, cond, List, [], ◌∷◌, ◌++◌, Option, refl, sym, ap, subst, ◌∙◌, inl, inr, eq-eqb, append_assoc}
+use Rattle.std.proofs.Common.{◌≡◌, ℕ, ◌==◌, ◌&&◌, ◌+◌, not, Bool, true, false, cond, List, [], ◌∷◌, ◌++◌, refl, sym, ap, subst, ◌∙◌, inl, inr, eq-eqb, append_assoc}
 use Rattle.std.specs.Prelude.{filter}
 use Rattle.std.specs.List.{AllByRecursion}
 use Rattle.std.proofs.lemmas.List.{append-nil}
 use Rattle.std.proofs.lemmas.Bool.{and_left, and_right}
 use Rattle.std.proofs.lemmas.Bool.Decides.{eqb_tells}
-use Rattle.chunk_format.specs.declared.chunk.Chunk.{Chunk}
 use Rattle.command_data.specs.Starts.{StartOf}
 use Rattle.list_machine.specs.Streams.{Confirmed, Subscription, Stream, no_stream}
 use Rattle.list_machine.specs.Subscribing.{new_subscription, IsOther, Subscribed, moved}

@@ -1,5 +1,5 @@
 -- The worked run, step by step.
-use Rattle.std.proofs.Common.{◌≡◌, ℕ, ◌==◌, ◌+◌, ◌<◌, ◌≤◌, Bool, true, false, cond, List, [], ◌∷◌, ◌++◌, length, pos, rules, Option, Some, None, refl, sym, ap, subst, ◌∙◌, inl, inr, arith, length-append}
+use Rattle.std.proofs.Common.{◌≡◌, ℕ, ◌==◌, ◌<◌, ◌≤◌, Bool, true, false, cond, List, [], ◌∷◌, ◌++◌, length, pos, rules, Some, None, refl, sym, ap, subst, ◌∙◌, inl, inr, arith, length-append}
 use Rattle.std.specs.List.{AllByRecursion}
 use Rattle.std.specs.Int.{w64}
 use Rattle.std.specs.Int.RustNames.{FitsSigned}
@@ -8,33 +8,29 @@ use Rattle.std.proofs.lemmas.List.Elements.{All-nil, All-from_recursion}
 use Rattle.frame_wire.specs.Fields.{u8_bytes, u16_bytes, u32_bytes, u64_bytes}
 use Rattle.frame_wire.specs.Frames.{frame, IsBody}
 use Rattle.frame_wire.proofs.FieldLaws.{u32_length}
-use Rattle.chunk_format.specs.declared.entry.Entry.{Entry}
 use Rattle.chunk_format.specs.declared.entry.Entry.TheVariants.{Simple}
 use Rattle.chunk_format.specs.declared.chunk.Chunk.{Chunk}
-use Rattle.chunk_format.specs.Tags.{Tag, tag_bytes, IsTag, IsTagOf, IsSnapshot}
+use Rattle.chunk_format.specs.Tags.{Tag, tag_bytes, IsTagOf, IsSnapshot}
 use Rattle.chunk_format.specs.Chunks.{IsEntry, HasRecords, IsChunk, entry_bytes, entries_bytes}
-use Rattle.chunk_format.specs.LogRows.{Rows, chunk_rows}
 use Rattle.command_fields.specs.Tables.{IsCommand, body_of}
 use Rattle.command_fields.specs.declared.response.ResponseCode.TheVariants as says
-use Rattle.command_data.specs.declared.item.Tagged.{Tagged}
 use Rattle.command_all.specs.declared.command.Command.{Command}
 use Rattle.command_all.specs.Commands.{command_table, frame_of}
 use Rattle.command_all.specs.Reading.{Partial, Reading}
 use Rattle.script_text.specs.declared.script.ScriptLine.TheVariants as script
 use Rattle.script_text.specs.declared.output.OutputLine.TheVariants as output
 use Rattle.script_text.specs.declared.output.Ending.TheVariants.{PeerEnded}
-use Rattle.list_machine.specs.Items.{AnyByRecursion}
 use Rattle.list_machine.specs.Streams.{Frame, Confirmed, Declaration, active, Subscription, Stream, no_stream}
 use Rattle.list_machine.specs.Publishing.{Declared}
 use Rattle.list_machine.specs.Subscribing.{with_delivery}
-use Rattle.list_machine.specs.Commits.{CommitStep, SentInOrder}
+use Rattle.list_machine.specs.Commits.{CommitStep}
 use Rattle.list_machine.specs.Moves.{Move, commits, declares, publishes, confirms, subscribes, delivers, leaves, forgets, MoveStep, StreamRun, without, forgotten}
-use Rattle.list_machine.specs.Machines.{Phase, open_now, leaving, gone, Connection, fresh, no_connection, Doing, idle, making, reopening, Machine, empty_machine, put, Moves, nowhere, only, everywhere, begun, IsUndeclared}
+use Rattle.list_machine.specs.Machines.{leaving, gone, Connection, fresh, no_connection, Doing, idle, making, reopening, Machine, empty_machine, put, Moves, nowhere, only, everywhere, begun, IsUndeclared}
 use Rattle.list_machine.specs.Lines.{frame_max, IsAnswered, IsQuiet}
 use Rattle.list_machine.specs.Answers.{declare, publish, subscribe, acts, Taken, Served}
 use Rattle.list_machine.specs.Sends.{Confirms, Delivers, Owed, Unasked}
 use Rattle.list_machine.specs.Steps.{Event, read, handled, made, committed, sent, ended, told, Does, MachineStep, MachineRun}
-use Rattle.list_machine.specs.Examples.{s_name, p_name, item, user_chunk, chunk_of, opening, machine_of, stream_of, connection_of, prepared, seven, frame as one_frame, reader, declares_seven, is_declared, publishes_one, confirms_one, subscribes_three, is_subscribed, delivery, gives, a_stream_made, a_declaration, a_confirm, a_delivery, a_stop, the_worked_run}
+use Rattle.list_machine.specs.Examples.{s_name, p_name, item, chunk_of, opening, machine_of, stream_of, connection_of, prepared, seven, frame as one_frame, reader, declares_seven, is_declared, publishes_one, confirms_one, subscribes_three, is_subscribed, delivery, gives, a_stream_made, a_declaration, a_confirm, a_delivery, a_stop, the_worked_run}
 use Rattle.list_machine.proofs.Lists.{all_back}
 
 -- ---- steps between machines with one stream and one connection

@@ -1,5 +1,5 @@
 -- What a command does when it is handled, and how it is answered.
-use Rattle.std.specs.Prelude.{◌≡◌, ◌≢◌, ℕ, ◌+◌, ◌==◌, ◌&&◌, ◌≤◌, nat_le, if◌then◌else◌, Bool, true, false, List, [], ◌∷◌, ◌++◌, length, map, codes, Option, Some, None, unwrap_or, find}
+use Rattle.std.specs.Prelude.{◌≡◌, ℕ, ◌+◌, ◌==◌, ◌&&◌, ◌≤◌, nat_le, if◌then◌else◌, Bool, false, List, [], ◌∷◌, ◌++◌, length, map, codes, Option, Some, None, unwrap_or}
 use Rattle.std.specs.List.{AllByRecursion, list_any}
 use Rattle.chunk_format.specs.declared.chunk.Chunk.{Chunk}
 use Rattle.chunk_format.specs.Logs.{same_name, Greatest, LastStored}
@@ -20,7 +20,7 @@ use Rattle.command_all.specs.Reading.{ReadingEnd, Partial, Unspelt, TooLarge}
 use Rattle.script_text.specs.declared.output.Ending.{Ending}
 use Rattle.script_text.specs.declared.output.Ending.TheVariants.{ClosedByPeer, ClosedByUs}
 use Rattle.list_machine.specs.Moves.{Move, declares, undeclares, publishes, refuses, subscribes, unsubscribes, starts, rests, grants, stores}
-use Rattle.list_machine.specs.Machines.{Phase, open_now, leaving, Connection, Change, adds, drops, Machine, put, Moves, nowhere, only, changed, last_behind, IsNamed, IsMissing, AreNew, ArePartitions, IsUndeclared, IsUnsubscribed}
+use Rattle.list_machine.specs.Machines.{open_now, leaving, Connection, Change, adds, drops, Machine, Moves, nowhere, only, changed, last_behind, IsNamed, IsMissing, AreNew, ArePartitions, IsUndeclared, IsUnsubscribed}
 use Rattle.list_machine.specs.Lines.{linked}
 
 -- What a command may do at a stream, as the moves of these names: it commits, confirms and delivers nothing.

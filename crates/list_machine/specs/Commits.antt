@@ -1,5 +1,5 @@
 -- Commit: what chunk may come next in a stream's list.
-use Rattle.std.specs.Prelude.{◌≡◌, ℕ, ◌≤◌, List, [], ◌∷◌, ◌++◌, Option, Some, None}
+use Rattle.std.specs.Prelude.{◌≡◌, ◌≤◌, List, [], ◌∷◌, ◌++◌, Option, Some, None}
 use Rattle.std.specs.List.{AllByRecursion}
 use Rattle.chunk_format.specs.declared.entry.Entry.{Entry}
 use Rattle.chunk_format.specs.declared.chunk.Chunk.{Chunk}
@@ -9,7 +9,7 @@ use Rattle.chunk_format.specs.LogRows.{Tag, LogRow, chunk_rows, Rows}
 use Rattle.chunk_format.specs.Logs.{end_of, last_epoch, bare_of, chunk_deltas}
 use Rattle.command_data.specs.declared.item.Tagged.{Tagged}
 use Rattle.list_machine.specs.Items.{items_by, IsIn, AnyByRecursion, AreReached, IsAbove, AtMostAsOften}
-use Rattle.list_machine.specs.Streams.{Declaration, StoredOffset, Life, live, Stream, items_of, sent_unnamed}
+use Rattle.list_machine.specs.Streams.{Declaration, StoredOffset, live, Stream, items_of, sent_unnamed}
 
 -- The declaration has the tag's name and sent this item, and each item that it sent earlier is at most some tag's of the
 -- name before the row: nothing is passed over.

@@ -1,5 +1,5 @@
 -- A worked run, with each kind of event that changes a stream, and the machines along it.
-use Rattle.std.specs.Prelude.{◌≡◌, ◌⊎◌, ℕ, ◌==◌, if◌then◌else◌, Bool, true, false, pos, List, [], ◌∷◌, ◌++◌, codes, Option, Some, None}
+use Rattle.std.specs.Prelude.{ℕ, ◌==◌, if◌then◌else◌, Bool, true, pos, List, [], ◌∷◌, ◌++◌, codes, Some, None}
 use Rattle.chunk_format.specs.declared.entry.Entry.{Entry}
 use Rattle.chunk_format.specs.declared.entry.Entry.TheVariants.{Simple}
 use Rattle.chunk_format.specs.declared.chunk.ChunkKind.TheVariants.{User, Delta, Snapshot}
@@ -9,16 +9,15 @@ use Rattle.chunk_format.specs.Tags.{tag_bytes, delta_bytes, DeltaOffset}
 use Rattle.command_fields.specs.declared.offset.OffsetSpec.TheVariants.{First}
 use Rattle.command_data.specs.declared.item.Tagged.{Tagged}
 use Rattle.command_data.specs.declared.command.DataCommand.TheVariants as data_commands
-use Rattle.command_admin.specs.declared.command.AdminCommand.TheVariants as admin_commands
 use Rattle.command_all.specs.declared.command.Command.{Command}
-use Rattle.command_all.specs.declared.command.Command.TheVariants.{Data, Admin}
+use Rattle.command_all.specs.declared.command.Command.TheVariants.{Data}
 use Rattle.command_all.specs.Commands.{frame_of}
 use Rattle.script_text.specs.declared.script.ScriptLine.TheVariants as script
 use Rattle.script_text.specs.declared.output.OutputLine.TheVariants as output
 use Rattle.script_text.specs.declared.output.Ending.TheVariants.{PeerEnded}
-use Rattle.list_machine.specs.Streams.{Frame, Confirmed, Declaration, Activity, waiting, active, Subscription, StoredOffset, live, Stream, no_stream}
-use Rattle.list_machine.specs.Machines.{Connection, fresh, no_connection, Doing, idle, making, Machine, empty_machine, IsMissing}
-use Rattle.list_machine.specs.Steps.{Event, read, handled, misread, made, refused, found, committed, sent, ended, told, MachineStep, MachineRun}
+use Rattle.list_machine.specs.Streams.{Frame, Confirmed, Declaration, Activity, Subscription, live, Stream, no_stream}
+use Rattle.list_machine.specs.Machines.{Connection, fresh, no_connection, Doing, Machine, empty_machine}
+use Rattle.list_machine.specs.Steps.{Event, read, handled, made, committed, sent, ended, told, MachineRun}
 
 -- ---- what the events are made of
 

@@ -1,8 +1,7 @@
 -- What the laws of the list machine say.
-use Rattle.std.specs.Prelude.{◌≡◌, ℕ, ◌+◌, ◌≤◌, ◌==◌, ◌&&◌, Bool, if◌then◌else◌, List, [], ◌∷◌, ◌++◌, length, count_by, flat_map, Option, Some, None}
+use Rattle.std.specs.Prelude.{◌≡◌, ℕ, ◌+◌, ◌≤◌, ◌==◌, ◌&&◌, Bool, if◌then◌else◌, List, [], ◌∷◌, ◌++◌, length, count_by, flat_map, Some}
 use Rattle.std.specs.List.{AllByRecursion}
 use Rattle.chunk_format.specs.declared.chunk.Chunk.{Chunk}
-use Rattle.chunk_format.specs.Tags.{DeltaEntry}
 use Rattle.chunk_format.specs.Logs.{users_above, bare_of, deltas_of, GoesOn}
 use Rattle.command_data.specs.declared.item.Tagged.{Tagged}
 use Rattle.list_machine.specs.Items.{items_in, Rises, IsIn, AnyByRecursion, AtMostAsOften}

@@ -13,3 +13,6 @@ pub mod Transcripts
 pub mod Laws
 pub mod Discipline
 pub mod Examples
+pub mod Leaders
+pub mod Counting
+pub mod Wrongs

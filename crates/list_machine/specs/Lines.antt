@@ -5,7 +5,7 @@ use Rattle.script_text.specs.declared.script.ScriptLine.TheVariants.{Create, Con
 use Rattle.script_text.specs.declared.output.Ending.TheVariants.{PeerEnded}
 use Rattle.command_all.specs.declared.command.Command.{Command}
 use Rattle.command_all.specs.Reading.{ReadingEnd, Partial, Reading}
-use Rattle.list_machine.specs.Moves.{Move, declares, forgets}
+use Rattle.list_machine.specs.Moves.{declares, forgets}
 use Rattle.list_machine.specs.Machines.{Phase, unused, open_now, leaving, gone, Connection, fresh, idle, making, reopening, Machine, put, Moves, nowhere, only, everywhere, IsNamed}
 
 -- the most bytes of a frame's body

@@ -1,12 +1,11 @@
 -- The state of the list machine: streams by number, and connections by number.
-use Rattle.std.specs.Prelude.{◌≡◌, ◌≢◌, ℕ, ◌+◌, ◌==◌, if◌then◌else◌, List, [], ◌∷◌, ◌++◌, length, Option, Some, None}
+use Rattle.std.specs.Prelude.{◌≡◌, ◌≢◌, ℕ, ◌+◌, ◌==◌, if◌then◌else◌, List, [], ◌∷◌, length, Option, Some}
 use Rattle.std.specs.List.{AllByRecursion, list_any}
 use Rattle.script_text.specs.declared.output.Ending.{Ending}
-use Rattle.script_text.specs.declared.output.Ending.TheVariants.{PeerEnded}
 use Rattle.command_all.specs.declared.command.Command.{Command}
 use Rattle.command_all.specs.Reading.{ReadingEnd, Partial}
 use Rattle.list_machine.specs.Items.{AnyByRecursion}
-use Rattle.list_machine.specs.Streams.{Declaration, Subscription, Life, live, Stream, no_stream}
+use Rattle.list_machine.specs.Streams.{Subscription, live, Stream, no_stream}
 use Rattle.list_machine.specs.Publishing.{Declared}
 use Rattle.list_machine.specs.Moves.{Move, begins, finishes}
 

@@ -1,9 +1,9 @@
 -- What can happen to a stream, move by move.
-use Rattle.std.specs.Prelude.{◌≡◌, ℕ, ◌==◌, ◌≤◌, not, Bool, List, [], ◌∷◌, ◌++◌, length, map, filter, Option, Some, None}
+use Rattle.std.specs.Prelude.{◌≡◌, ℕ, ◌==◌, ◌≤◌, not, Bool, List, [], ◌∷◌, ◌++◌, length, map, filter, Option, Some}
 use Rattle.chunk_format.specs.declared.chunk.Chunk.{Chunk}
 use Rattle.command_data.specs.declared.item.Tagged.{Tagged}
 use Rattle.command_fields.specs.declared.offset.OffsetSpec.{OffsetSpec}
-use Rattle.list_machine.specs.Streams.{Subscription, StoredOffset, Life, unmade, live, ended, Stream}
+use Rattle.list_machine.specs.Streams.{Subscription, unmade, live, ended, Stream}
 use Rattle.list_machine.specs.Commits.{CommitStep}
 use Rattle.list_machine.specs.Publishing.{DeclareStep, UndeclareStep, PublishStep, RefuseStep, ConfirmStep, closed, closed_of}
 use Rattle.list_machine.specs.Subscribing.{SubscribeStep, UnsubscribeStep, AskStep, StartStep, RestStep, GrantStep, DeliverStep}

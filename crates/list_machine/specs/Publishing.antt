@@ -2,7 +2,7 @@
 use Rattle.std.specs.Prelude.{◌≡◌, ℕ, ◌==◌, ◌≤◌, if◌then◌else◌, Bool, true, false, List, [], ◌∷◌, ◌++◌, length, Option, Some, None}
 use Rattle.command_data.specs.declared.item.Tagged.{Tagged}
 use Rattle.list_machine.specs.Items.{items_in, AreReached}
-use Rattle.list_machine.specs.Streams.{Frame, Confirmed, Declaration, Life, live, Stream, items_of, Counted}
+use Rattle.list_machine.specs.Streams.{Frame, Confirmed, Declaration, live, Stream, items_of, Counted}
 
 abbrev pub new_declaration : ℕ → ℕ → Option (List ℕ) → Declaration
 new_declaration connection id name = record { connection = connection; id = id; name = name; frames = []; known = []; stands = true }

@@ -1,12 +1,11 @@
 -- What is written on a connection: an answer that is owed, what is sent unasked, and the end.
-use Rattle.std.specs.Prelude.{◌≡◌, ℕ, ◌==◌, ◌+◌, ◌≤◌, ◌⊎◌, Bool, List, [], ◌∷◌, ◌++◌, length, map, Option, Some, None, option_map}
+use Rattle.std.specs.Prelude.{◌≡◌, ℕ, ◌==◌, ◌≤◌, ◌⊎◌, List, [], ◌∷◌, length, map, Option, Some, None, option_map}
 use Rattle.std.specs.List.{AllByRecursion, last_or}
 use Rattle.chunk_format.specs.declared.chunk.Chunk.{Chunk}
 use Rattle.chunk_format.specs.Chunks.{header_of, entries_bytes}
 use Rattle.command_fields.specs.declared.response.ResponseCode.TheVariants as says
 use Rattle.command_fields.specs.Codes.{number_of_code}
 use Rattle.command_data.specs.declared.item.Tagged.{Tagged}
-use Rattle.command_data.specs.declared.command.DataCommand.{DataCommand}
 use Rattle.command_data.specs.declared.command.DataCommand.TheVariants.{PublishConfirm}
 use Rattle.command_data.specs.Deliveries.{delivery_of}
 use Rattle.command_admin.specs.declared.command.AdminCommand.TheVariants.{MetadataUpdate, ConsumerUpdate, Tune, Heartbeat}
@@ -16,7 +15,7 @@ use Rattle.script_text.specs.declared.output.Ending.{Ending}
 use Rattle.script_text.specs.declared.output.Ending.TheVariants.{Silent}
 use Rattle.list_machine.specs.Streams.{Stream}
 use Rattle.list_machine.specs.Moves.{Move, confirms, delivers, asks, undeclares, unsubscribes, leaves}
-use Rattle.list_machine.specs.Machines.{Phase, open_now, leaving, gone, Connection, Machine, Moves, nowhere, only, everywhere}
+use Rattle.list_machine.specs.Machines.{Phase, open_now, leaving, gone, Machine, Moves, nowhere, only, everywhere}
 use Rattle.list_machine.specs.Lines.{linked}
 use Rattle.list_machine.specs.Answers.{next_asked}
 

@@ -1,18 +1,17 @@
 -- The list machine: its events, its steps and its runs.
-use Rattle.std.specs.Prelude.{◌≡◌, ◌≢◌, ◌==◌, if◌then◌else◌, ℕ, ◌+◌, ◌⊎◌, List, [], ◌∷◌, ◌++◌, Option, Some, None}
+use Rattle.std.specs.Prelude.{◌≡◌, ◌≢◌, ℕ, ◌+◌, ◌⊎◌, List, [], ◌∷◌, ◌++◌, Option, Some, None}
 use Rattle.chunk_format.specs.declared.chunk.Chunk.{Chunk}
 use Rattle.command_fields.specs.declared.response.ResponseCode.{ResponseCode}
 use Rattle.command_fields.specs.declared.response.ResponseCode.TheVariants as says
 use Rattle.command_admin.specs.declared.command.AdminCommand.TheVariants as admin_commands
 use Rattle.command_all.specs.declared.command.Command.{Command}
-use Rattle.command_all.specs.declared.command.Command.TheVariants.{Data, Admin}
+use Rattle.command_all.specs.declared.command.Command.TheVariants.{Admin}
 use Rattle.script_text.specs.declared.script.ScriptLine.{ScriptLine}
 use Rattle.script_text.specs.declared.output.Ending.{Ending}
 use Rattle.script_text.specs.declared.output.OutputLine.{OutputLine}
 use Rattle.script_text.specs.declared.output.OutputLine.TheVariants as lines
-use Rattle.list_machine.specs.Streams.{Stream}
 use Rattle.list_machine.specs.Moves.{Move, commits, StreamRun}
-use Rattle.list_machine.specs.Machines.{Phase, open_now, Connection, Change, adds, idle, making, reopening, Machine, empty_machine, Moves, nowhere, only, begun, changed, last_behind, AreNew}
+use Rattle.list_machine.specs.Machines.{open_now, Change, adds, idle, making, reopening, Machine, Moves, nowhere, only, begun, changed, last_behind, AreNew}
 use Rattle.list_machine.specs.Lines.{ReadStep}
 use Rattle.list_machine.specs.Answers.{HandleStep, MisreadStep}
 use Rattle.list_machine.specs.Sends.{SendStep, EndStep}

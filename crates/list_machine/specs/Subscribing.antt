@@ -6,7 +6,7 @@ use Rattle.chunk_format.specs.Chunks.{end_of_chunk}
 use Rattle.chunk_format.specs.Logs.{next_above}
 use Rattle.command_fields.specs.declared.offset.OffsetSpec.{OffsetSpec}
 use Rattle.command_data.specs.Starts.{StartOf}
-use Rattle.list_machine.specs.Streams.{Activity, waiting, starting, active, stopping, Subscription, Life, live, Stream}
+use Rattle.list_machine.specs.Streams.{Activity, waiting, starting, active, stopping, Subscription, live, Stream}
 
 -- one without a group is active at once
 abbrev pub first_activity : Option (List ℕ) → Activity

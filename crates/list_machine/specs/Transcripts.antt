@@ -1,11 +1,10 @@
 -- What was read and what was written, in order.
-use Rattle.std.specs.Prelude.{◌≡◌, ◌≢◌, ℕ, ◌*◌, ◌<◌, ◌^◌, ◌⊎◌, nat_le, ◌==◌, if◌then◌else◌, Bool, true, false, List, [], ◌∷◌, ◌++◌, length, map, count_by, Option, Some, None, flat_map}
+use Rattle.std.specs.Prelude.{◌≡◌, ◌≢◌, ℕ, ◌*◌, ◌<◌, ◌⊎◌, nat_le, ◌==◌, if◌then◌else◌, Bool, true, false, List, [], ◌∷◌, ◌++◌, length, map, count_by, flat_map}
 use Rattle.std.specs.List.{AllByRecursion}
 use Rattle.chunk_format.specs.declared.chunk.Chunk.{Chunk}
 use Rattle.chunk_format.specs.Chunks.{chunk_bytes}
 use Rattle.chunk_format.specs.Logs.{end_of}
 use Rattle.command_fields.specs.Codes.{number_of_code}
-use Rattle.command_all.specs.declared.command.Command.{Command}
 use Rattle.command_all.specs.Commands.{frame_of}
 use Rattle.command_all.specs.Fitting.{Fits}
 use Rattle.script_text.specs.declared.script.ScriptLine.{ScriptLine}

@@ -10,7 +10,6 @@ ghost use Rattle.list_machine.specs.Machines.{Machine, empty_machine};
 ghost use Rattle.list_machine.specs.Steps.{Event, MachineRun, moves_at};
 ghost use Rattle.list_machine.specs.Transcripts.{CommitLines};
 ghost use Rattle.list_machine.specs.Discipline.{Disciplined, DisciplinedRun};
-ghost use Rattle.list_machine.specs.Examples.{HasRun, the_worked_run};
 ghost use Rattle.list_machine.specs.Laws.{RowsRight, ExactlyOnce, DeliversRun, ConfirmedBy, tally_of, no_tally, Tallied};
 
 /// The chunks of a stream's commit lines are its list, which is contiguous from 0 with epochs that don't fall; and over
@@ -41,10 +40,4 @@ pub fn confirmed_stand_once()
 pub fn deliveries_are_runs()
     ensures told { (events : List Event) (new : Machine) (number : ℕ) (run : MachineRun empty_machine events new) → AllByRecursion (λ (s : Subscription). tally_of s ≡ Tallied s.connection s.id no_tally (moves_at number empty_machine events new run)) (new.streams number).subscriptions }
     ensures runs { (events : List Event) (new : Machine) (number : ℕ) → MachineRun empty_machine events new → AllByRecursion (DeliversRun (new.streams number).chunks) (new.streams number).subscriptions }
-{}
-
-/// Written out: a stream is made and opens, a publisher is declared, its item is committed and confirmed, a subscription
-/// gets it, all stops, and another epoch opens. It does nothing.
-pub fn a_worked_run_stands()
-    ensures { HasRun the_worked_run }
 {}

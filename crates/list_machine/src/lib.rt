@@ -2,8 +2,13 @@
 //! `specs/`; each law is a function that does nothing, whose contract is the law.
 #![tactic(auto)]
 
+mod examples;
 mod laws;
+mod server;
 
-pub use laws::{
-    a_worked_run_stands, confirmed_stand_once, deliveries_are_runs, lists_only_grow, rows_are_right,
+pub use examples::{
+    a_worked_run_stands, nothing_else_is_written, wrong_chunks_are_refused,
+    wrong_confirms_are_refused, wrong_deliveries_are_refused,
 };
+pub use laws::{confirmed_stand_once, deliveries_are_runs, lists_only_grow, rows_are_right};
+pub use server::{a_server_commits, a_server_confirms};

@@ -1,0 +1,55 @@
+//! What the list machine runs of events that are written out, and what it refuses.
+
+ghost use Rattle.std.specs.Prelude.{List, [], ◌∷◌, Option};
+ghost use Rattle.command_all.specs.declared.command.Command.{Command};
+ghost use Rattle.script_text.specs.declared.output.Ending.{Ending};
+ghost use Rattle.list_machine.specs.Streams.{waiting, active, Stream};
+ghost use Rattle.list_machine.specs.Machines.{fresh, idle};
+ghost use Rattle.list_machine.specs.Steps.{committed, sent, handled, ended};
+ghost use Rattle.list_machine.specs.Examples.{HasRun, the_worked_run, item, chunk_of, opening, stored_chunk, machine_of, reader, is_declared, delivery};
+ghost use Rattle.list_machine.specs.Wrongs.{HasNoStep, published, subscribed, one_waits, two_wait, two_then_one, one_confirmed, five_waits, first_chunk, second_chunk, later_opening, confirms_ids, ended_connection};
+
+/// Written out: a stream is made and opens, a publisher is declared, its item is committed and confirmed, a subscription
+/// gets it, all stops, and another epoch opens. It does nothing.
+pub fn a_worked_run_stands()
+    ensures { HasRun the_worked_run }
+{}
+
+/// Not committed are a chunk out of its place, twice, or of a lower epoch; and a row that nobody sent, that passes an
+/// earlier item over, whose id stands already, or whose id falls. It does nothing.
+pub fn wrong_chunks_are_refused()
+    ensures out_of_place { HasNoStep (published (opening ∷ []) one_waits) (committed 1 (chunk_of 1 5 (item 1 97))) }
+    ensures twice { HasNoStep (published (opening ∷ []) one_waits) (committed 1 opening) }
+    ensures lower_epoch { HasNoStep (published (opening ∷ later_opening ∷ []) one_waits) (committed 1 (chunk_of 1 2 (item 1 97))) }
+    ensures nobody_sent { HasNoStep (published (opening ∷ []) one_waits) (committed 1 (chunk_of 1 1 (item 9 99))) }
+    ensures passing { HasNoStep (published (opening ∷ []) two_wait) (committed 1 (chunk_of 1 1 (item 2 98))) }
+    ensures tag_twice { HasNoStep (published (opening ∷ first_chunk ∷ []) one_confirmed) (committed 1 (chunk_of 1 2 (item 1 97))) }
+    ensures tag_falls { HasNoStep (published (opening ∷ chunk_of 1 1 (item 2 98) ∷ []) two_then_one) (committed 1 (chunk_of 1 2 (item 1 97))) }
+{}
+
+/// Not confirmed is an item before its commit, twice, of no declaration, or above the greatest id. It does nothing.
+pub fn wrong_confirms_are_refused()
+    ensures early { HasNoStep (published (opening ∷ []) one_waits) (sent 1 (confirms_ids 7 (1 ∷ []))) }
+    ensures twice { HasNoStep (published (opening ∷ first_chunk ∷ []) one_confirmed) (sent 1 (confirms_ids 7 (1 ∷ []))) }
+    ensures undeclared { HasNoStep (published (opening ∷ first_chunk ∷ []) one_waits) (sent 1 (confirms_ids 9 (1 ∷ []))) }
+    ensures above { HasNoStep (published (opening ∷ first_chunk ∷ []) five_waits) (sent 1 (confirms_ids 7 (5 ∷ []))) }
+{}
+
+/// Not delivered is a chunk without a credit, out of order, past a gap, that stores an offset, or to a consumer that waits.
+/// It does nothing.
+pub fn wrong_deliveries_are_refused()
+    ensures uncredited { HasNoStep (subscribed (opening ∷ first_chunk ∷ []) (reader active 0 0 [])) (sent 1 (delivery first_chunk)) }
+    ensures out_of_order { HasNoStep (subscribed (opening ∷ first_chunk ∷ second_chunk ∷ []) (reader active 0 1 [])) (sent 1 (delivery second_chunk)) }
+    ensures past_gap { HasNoStep (subscribed (opening ∷ first_chunk ∷ second_chunk ∷ chunk_of 1 3 (item 3 99) ∷ []) (reader active 2 1 [])) (sent 1 (delivery (chunk_of 1 3 (item 3 99)))) }
+    ensures of_delta { HasNoStep (subscribed (opening ∷ stored_chunk 1 ∷ []) (reader active 0 1 [])) (sent 1 (delivery (stored_chunk 1))) }
+    ensures to_waiting { HasNoStep (subscribed (opening ∷ first_chunk ∷ []) (reader waiting 0 1 [])) (sent 1 (delivery first_chunk)) }
+{}
+
+/// No answer is written that isn't owed, as one that was written already; and on a connection that has ended nothing is
+/// written or handled, and it doesn't end again. It does nothing.
+pub fn nothing_else_is_written()
+    ensures not_owed { (s : Stream) → HasNoStep (machine_of s fresh idle) (sent 1 is_declared) }
+    ensures frame { (s : Stream) (command : Command) → HasNoStep (machine_of s ended_connection idle) (sent 1 command) }
+    ensures end { (s : Stream) (how : Ending) → HasNoStep (machine_of s ended_connection idle) (ended 1 how) }
+    ensures handling { (s : Stream) (command : Command) (answer : Option Command) → HasNoStep (machine_of s ended_connection idle) (handled 1 command answer) }
+{}
