@@ -19,3 +19,4 @@ pub mod Properties
 pub mod Starts
 pub mod Reopened
 pub mod Snapshots
+pub mod Refusals

@@ -4,3 +4,4 @@ pub mod Events
 pub mod Soundness
 pub mod Properties
 pub mod Openings
+pub mod Literals

@@ -5,6 +5,7 @@
 mod event_laws;
 mod opening_laws;
 mod property_laws;
+mod refused_runs;
 
 pub use event_laws::{
     events_keep_soundness, kept_lists_stay_kept, members_are_sound_before_their_commit,
@@ -15,4 +16,7 @@ pub use opening_laws::{electors_are_flags, openings_are_sound, what_is_left_is_o
 pub use property_laws::{
     IdsRise, LogProperty, SnapshotsAreTruthful, ids_rise, openings_have_the_property,
     properties_of_logs_stay, properties_that_offers_keep, snapshots_are_truthful,
+};
+pub use refused_runs::{
+    a_leader_alone_is_no_majority, a_shape_doesnt_cut_its_own_epoch, older_epochs_dont_count,
 };
