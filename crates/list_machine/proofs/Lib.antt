@@ -10,3 +10,4 @@ pub mod Worked
 pub mod Leading
 pub mod Counting
 pub mod Refusing
+pub mod ViewMoves

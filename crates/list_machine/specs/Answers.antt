@@ -20,7 +20,7 @@ use Rattle.command_all.specs.Reading.{ReadingEnd, Partial, Unspelt, TooLarge}
 use Rattle.script_text.specs.declared.output.Ending.{Ending}
 use Rattle.script_text.specs.declared.output.Ending.TheVariants.{ClosedByPeer, ClosedByUs}
 use Rattle.list_machine.specs.Moves.{Move, declares, undeclares, publishes, refuses, subscribes, unsubscribes, starts, rests, grants, stores}
-use Rattle.list_machine.specs.Machines.{open_now, leaving, Connection, Change, adds, drops, Machine, Moves, nowhere, only, changed, last_behind, IsNamed, IsMissing, AreNew, ArePartitions, IsUndeclared, IsUnsubscribed}
+use Rattle.list_machine.specs.Machines.{open_now, leaving, Connection, Change, adds, drops, Machine, Moves, nowhere, only, changed, last_behind, IsNamed, IsMissing, AreNew, IsPartition, ArePartitions, IsUndeclared, IsUnsubscribed}
 use Rattle.list_machine.specs.Lines.{linked}
 
 -- What a command may do at a stream, as the moves of these names: it commits, confirms and delivers nothing.
@@ -184,21 +184,24 @@ Changes says.Ok change outcome = outcome ≡ changes change
 Changes says.InternalError change outcome = outcome ≡ doubts change
 Changes other change outcome = outcome ≡ changes no_change
 
--- names of new streams are free
+-- where the change happened
 abbrev pub IfDone : ResponseCode → Type 0 → Type 0
 IfDone says.Ok Condition = Condition
 IfDone other Condition = Unit {0}
 
+-- names of new streams are free
 abbrev pub Creates : Machine → Option (List ℕ) → List (Option (List ℕ)) → ResponseCode → Outcome → Type 0
 Creates old super texts code outcome = IfDone code (AreNew old texts) × Changes code (adds super texts) outcome
 
+-- the live stream of the name ends
 abbrev pub Deletes : Machine → Option (List ℕ) → ResponseCode → Outcome → Type 0
 Deletes old stream code outcome =
     (numbers : List ℕ) × AllByRecursion (IsNamed old stream) numbers × IfDone code (length numbers ≡ 1) × Changes code (drops numbers) outcome
 
+-- the partitions of the super stream of the name end
 abbrev pub DeletesSuper : Machine → Option (List ℕ) → ResponseCode → Outcome → Type 0
 DeletesSuper old name code outcome =
-    (super : List ℕ) × (numbers : List ℕ) × IfDone code (name ≡ Some super) × ArePartitions old super numbers × Changes code (drops numbers) outcome
+    (super : List ℕ) × (numbers : List ℕ) × AllByRecursion (IsPartition old super) numbers × IfDone code ((name ≡ Some super) × ArePartitions old super numbers) × Changes code (drops numbers) outcome
 
 -- ---- versions, and the end
 

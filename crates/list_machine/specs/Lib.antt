@@ -16,3 +16,4 @@ pub mod Examples
 pub mod Leaders
 pub mod Counting
 pub mod Wrongs
+pub mod Joining

@@ -109,6 +109,11 @@ abbrev pub AreNew : Machine → List (Option (List ℕ)) → Type 0
 AreNew machine [] = Unit {0}
 AreNew machine (text ∷ texts) = IsMissing machine text × AllByRecursion (λ (other : Option (List ℕ)). other ≢ text) texts × AreNew machine texts
 
+-- the streams of a change may be made
+abbrev pub IsPossible : Machine → Change → Type 0
+IsPossible machine (adds super texts) = AreNew machine texts
+IsPossible machine (drops numbers) = Unit {0}
+
 -- the live stream of this number is a partition of this super stream
 abbrev pub IsPartition : Machine → List ℕ → ℕ → Type 0
 IsPartition machine super number = ((machine.streams number).life ≡ live) × ((machine.streams number).super ≡ Some super)

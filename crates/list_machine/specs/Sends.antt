@@ -1,6 +1,6 @@
 -- What is written on a connection: an answer that is owed, what is sent unasked, and the end.
-use Rattle.std.specs.Prelude.{◌≡◌, ℕ, ◌==◌, ◌≤◌, ◌⊎◌, List, [], ◌∷◌, length, map, Option, Some, None, option_map}
-use Rattle.std.specs.List.{AllByRecursion, last_or}
+use Rattle.std.specs.Prelude.{◌≡◌, ℕ, ◌==◌, ◌≤◌, ◌⊎◌, List, [], ◌∷◌, length, map, Option, Some, None}
+use Rattle.std.specs.List.{AllByRecursion}
 use Rattle.chunk_format.specs.declared.chunk.Chunk.{Chunk}
 use Rattle.chunk_format.specs.Chunks.{header_of, entries_bytes}
 use Rattle.command_fields.specs.declared.response.ResponseCode.TheVariants as says
@@ -8,6 +8,7 @@ use Rattle.command_fields.specs.Codes.{number_of_code}
 use Rattle.command_data.specs.declared.item.Tagged.{Tagged}
 use Rattle.command_data.specs.declared.command.DataCommand.TheVariants.{PublishConfirm}
 use Rattle.command_data.specs.Deliveries.{delivery_of}
+use Rattle.stream_terms.specs.Lists.{last_first}
 use Rattle.command_admin.specs.declared.command.AdminCommand.TheVariants.{MetadataUpdate, ConsumerUpdate, Tune, Heartbeat}
 use Rattle.command_all.specs.declared.command.Command.{Command}
 use Rattle.command_all.specs.declared.command.Command.TheVariants.{Data, Admin}
@@ -22,15 +23,11 @@ use Rattle.list_machine.specs.Answers.{next_asked}
 abbrev pub ids_of_items : List Tagged → List ℕ
 ids_of_items items = map (λ (x : Tagged). x.id) items
 
--- the first offset of the last chunk of the list as seen
-abbrev pub last_first : Stream → Option ℕ
-last_first stream = option_map (λ (c : Chunk). c.first) (last_or None stream.seen)
-
 -- By the version of Deliver of the connection: the chunk's header and payload; in version 2 also the first offset of the
 -- last chunk of the list as seen.
 abbrev pub committed_by : ℕ → Stream → Option ℕ → Type 0
 committed_by version stream None = version ≡ 1
-committed_by version stream (Some committed) = (version ≡ 2) × (last_first stream ≡ Some committed)
+committed_by version stream (Some committed) = (version ≡ 2) × (last_first stream.seen ≡ Some committed)
 
 -- a publisher or a subscription of this connection is gone
 abbrev pub IsGone : ℕ → Move → Type 0

@@ -11,7 +11,7 @@ use Rattle.script_text.specs.declared.output.Ending.{Ending}
 use Rattle.script_text.specs.declared.output.OutputLine.{OutputLine}
 use Rattle.script_text.specs.declared.output.OutputLine.TheVariants as lines
 use Rattle.list_machine.specs.Moves.{Move, commits, StreamRun}
-use Rattle.list_machine.specs.Machines.{open_now, Change, adds, idle, making, reopening, Machine, Moves, nowhere, only, begun, changed, last_behind, AreNew}
+use Rattle.list_machine.specs.Machines.{open_now, Change, adds, idle, making, reopening, Machine, Moves, nowhere, only, begun, changed, last_behind, AreNew, IsPossible}
 use Rattle.list_machine.specs.Lines.{ReadStep}
 use Rattle.list_machine.specs.Answers.{HandleStep, MisreadStep}
 use Rattle.list_machine.specs.Sends.{SendStep, EndStep}
@@ -80,6 +80,7 @@ pub record FoundStep (old : Machine) (change : Change) (moves : Moves) (after : 
   pub is_changing : IsChanging old
   pub before : List Change
   pub behind : List Change
+  pub is_possible : IsPossible old change
   pub was_unsure : old.unsure ≡ before ++ change ∷ behind
   pub moves_are : moves ≡ changed old.last change
   pub after_is : after ≡ record old { last = last_behind old.last change; unsure = before ++ behind }

@@ -3,6 +3,7 @@
 #![tactic(auto)]
 
 mod examples;
+mod joining;
 mod laws;
 mod server;
 
@@ -10,5 +11,6 @@ pub use examples::{
     a_worked_run_stands, nothing_else_is_written, wrong_chunks_are_refused,
     wrong_confirms_are_refused, wrong_deliveries_are_refused,
 };
+pub use joining::{handed_out_is_confirmed, moves_are_commits};
 pub use laws::{confirmed_stand_once, deliveries_are_runs, lists_only_grow, rows_are_right};
 pub use server::{a_server_commits, a_server_confirms};
