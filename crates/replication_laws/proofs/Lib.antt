@@ -20,3 +20,4 @@ pub mod Starts
 pub mod Reopened
 pub mod Snapshots
 pub mod Refusals
+pub mod Claims

@@ -5,3 +5,4 @@ pub mod Soundness
 pub mod Properties
 pub mod Openings
 pub mod Literals
+pub mod Confirms

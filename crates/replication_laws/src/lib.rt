@@ -2,11 +2,13 @@
 //! comes back. Each function does nothing; its contract is the law.
 #![tactic(auto)]
 
+mod confirm_laws;
 mod event_laws;
 mod opening_laws;
 mod property_laws;
 mod refused_runs;
 
+pub use confirm_laws::{Claim, an_open_leaders_sequence_stays, claims_wait_and_stand};
 pub use event_laws::{
     events_keep_soundness, kept_lists_stay_kept, members_are_sound_before_their_commit,
     the_committed_list_begins_the_open_leaders_log, the_committed_list_only_grows,
