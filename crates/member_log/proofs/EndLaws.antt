@@ -1,17 +1,17 @@
 -- Places in a log by the ends of its chunks, which rise.
 use Rattle.std.proofs.Common.{◌≡◌, ℕ, zero, suc, ◌+◌, ◌-◌, ◌≤◌, ◌<◌, Bool, true, false, List, [], ◌∷◌, ◌++◌, length, take, drop, get_or, refl, sym, ap, ◌∙◌, arith, Option, Some, None}
-use Rattle.std.specs.Prelude.{◌==◌, if◌then◌else◌, nat_le}
+use Rattle.std.specs.Prelude.{◌==◌, ◌||◌, if◌then◌else◌, nat_le}
 use Rattle.std.specs.List.{AllWithin}
 use Rattle.std.specs.List.Sorted.{IsNonDecreasingBy}
 use Rattle.std.proofs.lemmas.List.{take_more, take_all, drop_all}
 use Rattle.std.proofs.Math.Seq.{drop-cons}
 use Rattle.chunk_format.specs.declared.chunk.Chunk.{Chunk}
 use Rattle.chunk_format.specs.Chunks.{end_of_chunk}
-use Rattle.chunk_format.specs.Logs.{Linked, IsLog, end_of}
-use Rattle.chunk_format.proofs.LinkLaws.{chunk_goes_on, end_push, epoch_push}
+use Rattle.chunk_format.specs.Logs.{Linked, IsLog, end_of, epoch_from, last_epoch}
+use Rattle.chunk_format.proofs.LinkLaws.{chunk_goes_on, end_push, epoch_push, epoch_past}
 use Rattle.epoch_coordinator.specs.declared.tail.Run.{Run}
 use Rattle.epoch_coordinator.specs.Tails.{contains, tail_of}
-use Rattle.epoch_coordinator.specs.MemberSteps.{cut_at, chunk_from, tail_after, kept_from, kept_end, ends_in}
+use Rattle.epoch_coordinator.specs.MemberSteps.{cut_at, chunk_from, tail_after, kept_from, kept_end, ends_in, has_epoch}
 use Rattle.member_log.specs.Kept.{ended}
 
 -- ---- ends rise
@@ -201,3 +201,31 @@ ends_last epoch chunks c some is =
     let before : n - 1 + 1 ≡ n = omega (arith, some) in
     let all : take (n - 1) chunks ++ c ∷ [] ≡ chunks = sym (last_of chunks (n - 1) c (omega (arith, some)) is) ∙ ap (λ (k : ℕ). take k chunks) before ∙ take_all n chunks (omega arith) in
     sym (ends_push epoch (take (n - 1) chunks) c) ∙ ap (ends_in epoch) all
+
+-- ---- an epoch that none is above
+
+first_has : (b more : Bool) → (b ≡ true → more ≡ true) → (b || more) ≡ more
+first_has true more f = sym (f refl)
+first_has false more f = refl
+
+has_from : (at from epoch : ℕ) (chunks : List Chunk) → Linked at from chunks → epoch_from from chunks ≤ epoch → has_epoch epoch chunks ≡ ends_in epoch chunks
+has_from at from epoch [] l above = refl
+has_from at from epoch (c ∷ []) l above = first_has_none (c.epoch == epoch)
+  where
+    first_has_none : (b : Bool) → (b || false) ≡ b
+    first_has_none true = refl
+    first_has_none false = refl
+has_from at from epoch (c ∷ d ∷ more) l above =
+    let past = epoch_past (end_of_chunk d) d.epoch more l.behind.behind in
+    let not_before = l.behind.not_before in
+    let later : (c.epoch == epoch) ≡ true → has_epoch epoch (d ∷ more) ≡ true = λ is. second c.epoch d.epoch epoch (epoch_from d.epoch more) is not_before past above in
+    first_has (c.epoch == epoch) (has_epoch epoch (d ∷ more)) later ∙ has_from (end_of_chunk c) c.epoch epoch (d ∷ more) l.behind above
+  where
+    both : (a b e f : ℕ) → (a == e) ≡ true → a ≤ b → b ≤ f → f ≤ e → (b == e) ≡ true
+    both a b e f is ab bf fe = grind arith
+
+    second : (a b e f : ℕ) → (a == e) ≡ true → a ≤ b → b ≤ f → f ≤ e → ((b == e) || has_epoch e more) ≡ true
+    second a b e f is ab bf fe = ap (λ (x : Bool). x || has_epoch e more) (both a b e f is ab bf fe)
+
+pub has_is : (epoch : ℕ) (chunks : List Chunk) (b : Bool) → IsLog chunks → last_epoch chunks ≤ epoch → b ≡ ends_in epoch chunks → b ≡ has_epoch epoch chunks
+has_is epoch chunks b l above is = is ∙ sym (has_from 0 0 epoch chunks l above)

@@ -5,8 +5,8 @@ use Rattle.std.proofs.Math.Seq.{drop-cons}
 use Rattle.chunk_format.specs.declared.chunk.Chunk.{Chunk}
 use Rattle.chunk_format.specs.declared.chunk.ChunkKind.{ChunkKind}
 use Rattle.chunk_format.specs.Chunks.{chunk_bytes, end_of_chunk, IsChunk}
-use Rattle.chunk_format.specs.Logs.{IsLog, Truthful}
-use Rattle.chunk_format.proofs.LinkLaws.{linked_push, linked_front}
+use Rattle.chunk_format.specs.Logs.{IsLog, Truthful, last_epoch}
+use Rattle.chunk_format.proofs.LinkLaws.{linked_push, linked_front, epoch_grows}
 use Rattle.chunk_format.proofs.TruthLaws.{truthful_push, truthful_front}
 use Rattle.tracking_state.specs.Tracked.{Tracked, tracked_of}
 use Rattle.epoch_coordinator.specs.declared.tail.Run.{Run}
@@ -116,3 +116,16 @@ cut_shows l chunks new written end kept view none log within place is =
     ∙ ap (λ (x : List Chunk). record { log = x; ahead = drop kept front }) (take_all kept front (omega arith))
     ∙ ap (λ (x : List Chunk). record { log = front; ahead = x }) (drop_all kept front (omega arith))
     ∙ ap only (ap (λ (k : ℕ). take k chunks) place ∙ sym (cut_is end chunks log) ∙ ap (cut_at end) same)
+
+-- a front ends in no later epoch
+pub cut_falls : (l : LogState) (chunks new : List Chunk) (written kept : ℕ) → parts written chunks ≡ l → l.ahead ≡ [] → IsLog chunks → kept ≤ length chunks → new ≡ take kept chunks → last_epoch (take kept new) ≤ last_epoch l.log
+cut_falls l chunks new written kept view none log within is =
+    let front = take kept chunks in
+    let all : length front ≡ kept = length-take-le kept chunks within in
+    let same : chunks ≡ l.log = sym (whole_parts written chunks l view) ∙ ap (λ (x : List Chunk). l.log ++ x) none ∙ append-nil l.log in
+    let split : front ++ drop kept chunks ≡ chunks = take-append-drop kept chunks in
+    let grows = epoch_grows front (drop kept chunks) (subst IsLog (sym split) log) in
+    let whole_epoch : last_epoch (front ++ drop kept chunks) ≡ last_epoch l.log = ap last_epoch (split ∙ same) in
+    let here : take kept new ≡ front = ap (take kept) is ∙ take_all kept front (omega arith) in
+    let front_epoch : last_epoch (take kept new) ≡ last_epoch front = ap last_epoch here in
+    omega (arith, grows, whole_epoch, front_epoch)

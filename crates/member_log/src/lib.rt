@@ -8,4 +8,4 @@ mod runs;
 mod search;
 
 pub use member_log::MemberLog;
-pub use search::{contains, ended};
+pub use search::{chunk_end, contains, ended, tail_after};

@@ -3,17 +3,17 @@
 ghost use Rattle.std.specs.Prelude.{◌≡◌, ◌+◌, ◌<◌, ◌≤◌, ◌^◌, [], ◌∷◌, ◌++◌, length, IfOk, OnOk, OnErr, IsTrue, ◌↔◌};
 ghost use Rattle.chunk_format.specs.declared.chunk.ChunkKind.TheVariants.{Snapshot};
 ghost use Rattle.chunk_format.specs.Chunks.{IsChunk};
-ghost use Rattle.chunk_format.specs.Logs.{IsLog, Truthful, end_of, opening_chunk};
+ghost use Rattle.chunk_format.specs.Logs.{IsLog, Truthful, end_of, last_epoch, opening_chunk};
 ghost use Rattle.chunk_format.specs.ByName.{Greatest, LastStored, first_seen, tag_names, stored_names, snapshot_body, snapshot_entry_of};
 ghost use Rattle.epoch_coordinator.specs.Tails.{tail_of, runs_of};
-ghost use Rattle.epoch_coordinator.specs.MemberSteps.{cut_at, chunk_from, kept_end, ends_in, is_true_after};
+ghost use Rattle.epoch_coordinator.specs.MemberSteps.{cut_at, chunk_from, kept_end, ends_in, has_epoch, is_true_after};
 ghost use Rattle.epoch_coordinator.specs.Offers.{since_snapshot};
 ghost use Rattle.member_log.specs.Kept.{whole, only, with_chunk, written, GoesBehind, bytes_of, plain_count, snapshot_chunk};
 
 use crate::counted::{Counted, without};
 use crate::known::Known;
 use crate::runs::{add_run, run_of, runs_of};
-use crate::search::{ended, ends_in, kept_end, share_from, tail_of};
+use crate::search::{cut_tail, ended, ends_in, has_epoch, kept_end, share_from, tail_of};
 use chunk_format::{Chunk, ChunkKind, Entry, Stored};
 use epoch_coordinator::{Run, Tail};
 use frame_wire::{Octets, Row};
@@ -99,6 +99,7 @@ impl MemberLog {
     pub fn cut(&mut self, end: u64) -> Result<(), AllocError>
         requires { self.old.ahead ≡ [] }
         ensures ok { OnOk result (self.new ≡ only (cut_at end self.old.log)) }
+        ensures epoch { OnOk result (last_epoch self.new.log ≤ last_epoch self.old.log) }
         ensures err { OnErr result (self.new ≡ self.old) }
     {
         let kept = ended(self.chunks.as_slice(), end);
@@ -188,6 +189,21 @@ impl MemberLog {
         ensures { result ≡ ends_in epoch self.now.log }
     {
         ends_in(self.log(), epoch)
+    }
+
+    /// Whether a chunk of the log has this epoch, which none of them is above.
+    pub fn has_epoch(&self, epoch: u64) -> bool
+        requires { last_epoch self.now.log ≤ epoch }
+        ensures { result ≡ has_epoch epoch self.now.log }
+    {
+        has_epoch(self.log(), epoch)
+    }
+
+    /// The tail of the log, were it cut at this offset.
+    pub fn cut_tail(&self, end: u64) -> Tail
+        ensures { result ≡ tail_of (cut_at end self.now.log) }
+    {
+        cut_tail(self.log(), end)
     }
 
     /// The greatest id of a publisher in all chunks, those that wait included. What was put since

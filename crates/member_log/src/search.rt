@@ -3,9 +3,9 @@
 ghost use Rattle.std.specs.Prelude.{◌≡◌, ◌==◌, ◌&&◌, ◌≤◌, length, nat_le, IfOk};
 ghost use Rattle.std.specs.List.{list_any};
 ghost use Rattle.chunk_format.specs.Chunks.{end_of_chunk};
-ghost use Rattle.chunk_format.specs.Logs.{IsLog};
+ghost use Rattle.chunk_format.specs.Logs.{IsLog, last_epoch};
 ghost use Rattle.epoch_coordinator.specs.Tails.{contains, tail_of};
-ghost use Rattle.epoch_coordinator.specs.MemberSteps.{tail_after, kept_end, chunk_from, ends_in};
+ghost use Rattle.epoch_coordinator.specs.MemberSteps.{tail_after, kept_end, chunk_from, ends_in, has_epoch, cut_at};
 ghost use Rattle.member_log.specs.Kept.{ended, reaches};
 
 use chunk_format::Stored;
@@ -13,7 +13,7 @@ use epoch_coordinator::{Run, Tail};
 use std::alloc::AllocError;
 
 /// The offset behind a chunk.
-fn chunk_end(chunk: &Stored) -> u64
+pub fn chunk_end(chunk: &Stored) -> u64
     ensures { result ≡ end_of_chunk chunk.now }
 {
     let header = chunk.header();
@@ -21,7 +21,7 @@ fn chunk_end(chunk: &Stored) -> u64
 }
 
 /// The tail of a log that ends with this chunk.
-pub(crate) fn tail_after(chunk: &Stored) -> Tail
+pub fn tail_after(chunk: &Stored) -> Tail
     ensures { result ≡ tail_after chunk.now }
 {
     let header = chunk.header();
@@ -51,6 +51,24 @@ pub(crate) fn ends_in(log: &[Stored], epoch: u64) -> bool
         return false;
     }
     tail_after(&log[len - 1]).epoch == epoch
+}
+
+/// Whether a chunk of a log has this epoch, which none of them is above: then the last has it.
+pub(crate) fn has_epoch(log: &[Stored], epoch: u64) -> bool
+    requires is_log { IsLog log.now }
+    requires above { last_epoch log.now ≤ epoch }
+    ensures { result ≡ has_epoch epoch log.now }
+{
+    ends_in(log, epoch)
+}
+
+/// The tail of a log, were it cut at this offset.
+pub(crate) fn cut_tail(log: &[Stored], end: u64) -> Tail
+    requires { IsLog log.now }
+    ensures { result ≡ tail_of (cut_at end log.now) }
+{
+    let kept = ended(log, end);
+    tail_of(&log[..kept])
 }
 
 /// The chunk of a log that begins at an offset.

@@ -2,7 +2,7 @@ use Rattle.std.proofs.Common.{◌≤◌, ◌∙◌, ap, subst, List, [], length,
 use Rattle.chunk_format.specs.declared.chunk.Chunk.{Chunk}
 use Rattle.epoch_coordinator.specs.Tails.{runs_of}
 use Rattle.member_log.specs.Kept.{ended, AreCounted}
-use Rattle.member_log.proofs.Keeping.{front_keeps, cut_shows}
+use Rattle.member_log.proofs.Keeping.{front_keeps, cut_shows, cut_falls}
 use Rattle.member_log.proofs.member_log.MemberLog.cut.Goals as goal
 
 pub invariant_of-self : goal.invariant_of-self
@@ -23,3 +23,10 @@ returns-clause-ok c =
     let within = subst (λ (l : List Chunk). kept ≤ length l) c.as_slice.ensures.value c.ended-kept.ensures.within in
     let place = c.ended-kept.ensures.is ∙ ap (ended c.args.end) c.as_slice.ensures.value in
     cut_shows c.args.self.now i.chunks.items c.truncate.new.self.items i.written c.args.end kept c.self.view_is c.requires c.self.invariant.0.is_log within place c.truncate.ensures.items
+
+pub returns-clause-epoch : goal.returns-clause-epoch
+returns-clause-epoch c =
+    let i = c.self.inside in
+    let kept = c.ended-kept.result in
+    let within = subst (λ (l : List Chunk). kept ≤ length l) c.as_slice.ensures.value c.ended-kept.ensures.within in
+    cut_falls c.args.self.now i.chunks.items c.truncate.new.self.items i.written kept c.self.view_is c.requires c.self.invariant.0.is_log within c.truncate.ensures.items
