@@ -21,3 +21,4 @@ pub mod Reopened
 pub mod Snapshots
 pub mod Refusals
 pub mod Claims
+pub mod Causes

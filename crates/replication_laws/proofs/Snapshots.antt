@@ -122,7 +122,7 @@ spells epoch stamp x name first items is fits =
     }
 
 -- what a chunk of items says of a name
-record SaysIds (name : List ℕ) (items : List Item) (chunks : List Chunk) : Type 0 where
+pub record SaysIds (name : List ℕ) (items : List Item) (chunks : List Chunk) : Type 0 where
   pub own : name ≡ [] ⊎ (ids_of name chunks ≡ map (λ (i : Item). i.id) items)
   pub other : (n : List ℕ) → (n ≡ name → ⊥) ⊎ (name ≡ []) → ids_of n chunks ≡ []
 
@@ -133,7 +133,7 @@ differ a b ne = go (same_name a b) refl
     go true e = absurd (ne (sym ((same_decides a b).0 e)))
     go false e = e
 
-chunk_says : (epoch : ℕ) (stamp : ℤ) (name : List ℕ) (first : ℕ) (items : List Item) → length name < 2 ^ 8 → AllByRecursion (λ (i : Item). i.id < 2 ^ 64) items → SaysIds name items (user_chunk epoch stamp name first items ∷ [])
+pub chunk_says : (epoch : ℕ) (stamp : ℤ) (name : List ℕ) (first : ℕ) (items : List Item) → length name < 2 ^ 8 → AllByRecursion (λ (i : Item). i.id < 2 ^ 64) items → SaysIds name items (user_chunk epoch stamp name first items ∷ [])
 chunk_says epoch stamp [] first items fits ids =
     let none = untagged_user (user_chunk epoch stamp [] first items) refl refl in
     record { own = inl refl; other = λ n h. none.no_ids n }
@@ -146,7 +146,7 @@ chunk_says epoch stamp (x ∷ name) first items fits ids =
       other = λ n h. elim h [ inl ne ↦ user_other_ids c tags refl s n (differ (x ∷ name) n ne) | inr e ↦ absurd cc ];
     }
 
-with_says : (list : List Chunk) (c : Chunk) (name : List ℕ) (items : List Item) → SaysIds name items (c ∷ []) → SaysIds name items (with_snapshot list c)
+pub with_says : (list : List Chunk) (c : Chunk) (name : List ℕ) (items : List Item) → SaysIds name items (c ∷ []) → SaysIds name items (with_snapshot list c)
 with_says list c name items s = go (since_snapshot (list ++ c ∷ []) == snapshot_every)
   where
     shot : Chunk
@@ -162,11 +162,11 @@ with_says list c name items s = go (since_snapshot (list ++ c ∷ []) == snapsho
       other = λ n h. ids_join n (c ∷ []) (shot ∷ []) ∙ (ap (λ (l : List ℕ). ids_of n (c ∷ []) ++ l) (none.no_ids n) ∙ (append-nil (ids_of n (c ∷ [])) ∙ s.other n h));
     }
 
-each_left : {A : Type 0} (P : A → Type 0) (xs ys : List A) → AllByRecursion P (xs ++ ys) → AllByRecursion P xs
+pub each_left : {A : Type 0} (P : A → Type 0) (xs ys : List A) → AllByRecursion P (xs ++ ys) → AllByRecursion P xs
 each_left P [] ys h = tt
 each_left P (x ∷ xs) ys h = (h.0, each_left P xs ys h.1)
 
-each_right : {A : Type 0} (P : A → Type 0) (xs ys : List A) → AllByRecursion P (xs ++ ys) → AllByRecursion P ys
+pub each_right : {A : Type 0} (P : A → Type 0) (xs ys : List A) → AllByRecursion P (xs ++ ys) → AllByRecursion P ys
 each_right P [] ys h = h
 each_right P (x ∷ xs) ys h = each_right P xs ys h.1
 
@@ -175,7 +175,7 @@ record SaysAtMost (name : List ℕ) (items : List Item) (chunks : List Chunk) : 
   pub own : name ≡ [] ⊎ GoesOn (ids_of name chunks) (map (λ (i : Item). i.id) items)
   pub other : (n : List ℕ) → (n ≡ name → ⊥) ⊎ (name ≡ []) → ids_of n chunks ≡ []
 
-map_join : (a b : List Item) → map (λ (i : Item). i.id) (a ++ b) ≡ map (λ (i : Item). i.id) a ++ map (λ (i : Item). i.id) b
+pub map_join : (a b : List Item) → map (λ (i : Item). i.id) (a ++ b) ≡ map (λ (i : Item). i.id) a ++ map (λ (i : Item). i.id) b
 map_join [] b = refl
 map_join (x ∷ a) b = ap (λ (l : List ℕ). x.id ∷ l) (map_join a b)
 
@@ -234,7 +234,7 @@ rises_by name list chunks r own other = rises_in_join list chunks r (λ n. incre
     over n (inl e) (inl o) = subst (λ (m : List ℕ). AllByRecursion (λ (id : ℕ). AtMost id (Greatest m list) → ⊥) (ids_of m chunks)) (sym e) o.above
     over n (inl e) (inr nil) = none_over n (other n (inr nil))
 
-rising_fits : (g : Option ℕ) (items : List Item) → AllByRecursion (λ (i : Item). i.id < 2 ^ 64) items → AllByRecursion (λ (i : Item). i.id < 2 ^ 64) (rising_from g items)
+pub rising_fits : (g : Option ℕ) (items : List Item) → AllByRecursion (λ (i : Item). i.id < 2 ^ 64) items → AllByRecursion (λ (i : Item). i.id < 2 ^ 64) (rising_from g items)
 rising_fits g [] h = tt
 rising_fits g (item ∷ more) h = go (is_new g item.id) (rising_fits (Some item.id) more h.1) (rising_fits g more h.1)
   where

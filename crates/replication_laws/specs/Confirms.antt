@@ -1,8 +1,10 @@
 -- Claims on the committed list that wait until it reaches an end: what a confirm of an offer claims.
-use Rattle.std.specs.Prelude.{◌≡◌, ℕ, ◌<◌, ◌≤◌, ◌⊎◌, List, ◌++◌}
+use Rattle.std.specs.Prelude.{◌≡◌, ℕ, ◌<◌, ◌≤◌, ◌⊎◌, List, [], ◌∷◌, ◌++◌}
 use Rattle.std.specs.List.{AllByRecursion}
 use Rattle.chunk_format.specs.declared.chunk.Chunk.{Chunk}
-use Rattle.chunk_format.specs.Logs.{GoesOn, end_of, last_epoch, Linked}
+use Rattle.chunk_format.specs.declared.entry.Entry.{Entry}
+use Rattle.chunk_format.specs.ByName.{Greatest, AtMost}
+use Rattle.chunk_format.specs.Logs.{GoesOn, end_of, last_epoch, Linked, bare_in}
 use Rattle.epoch_coordinator.specs.Members.{sequence_of}
 use Rattle.replication_laws.specs.Cluster.{ClusterState, member, RunsWith}
 
@@ -35,3 +37,8 @@ pub record IsBehind (w w' : ClusterState) : Type 0 where
   pub linked : Linked (end_of (sequence_of (member w leader))) (last_epoch (sequence_of (member w leader))) chunks
   pub each : AllByRecursion (λ (c : Chunk). c.epoch ≡ epoch) chunks
   pub committed_is : w'.committed ≡ w.committed
+
+-- What the confirm of an offer claims: without a name its entries are the untagged rows of its own range, with one no id is above the greatest of the name.
+abbrev pub Caused : List ℕ → List ℕ → List Entry → ℕ → ℕ → List Chunk → Type 0
+Caused [] ids entries from end list = entries ≡ bare_in from end list
+Caused (x ∷ name) ids entries from end list = AllByRecursion (λ (id : ℕ). AtMost id (Greatest (x ∷ name) list)) ids

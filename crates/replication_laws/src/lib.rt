@@ -8,7 +8,10 @@ mod opening_laws;
 mod property_laws;
 mod refused_runs;
 
-pub use confirm_laws::{Claim, an_open_leaders_sequence_stays, claims_wait_and_stand};
+pub use confirm_laws::{
+    Claim, an_offer_is_what_its_confirm_claims, an_open_leaders_sequence_stays,
+    claims_wait_and_stand,
+};
 pub use event_laws::{
     events_keep_soundness, kept_lists_stay_kept, members_are_sound_before_their_commit,
     the_committed_list_begins_the_open_leaders_log, the_committed_list_only_grows,
