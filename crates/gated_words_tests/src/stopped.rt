@@ -117,6 +117,32 @@ fn an_opening_is_stopped_at_each_call(rt: HostRuntime) {
     }
 }
 
+// Whether an opening whose nth call fails does fail, and the next one finds the pairs.
+fn open_repeated(alloc: Global, before: &Before, n: u64) -> bool {
+    let mut disk = MemoryDisk::new(alloc);
+    if !lay_both(&mut disk, before) || fail_call(&mut disk, 1, n.max(1)).is_err() {
+        return false;
+    }
+    match open(alloc, &mut disk) {
+        Err(GateFault::Disk) => finds(alloc, &mut disk, before.pairs),
+        _ => false,
+    }
+}
+
+#[test]
+fn a_failed_opening_is_repeated(rt: HostRuntime) {
+    for before in &OPENINGS {
+        for n in 1..=before.calls {
+            assert!(rt;
+                open_repeated(rt.alloc(), before, n),
+                "call {n} of {:?}, {:?}",
+                before.first,
+                before.second
+            );
+        }
+    }
+}
+
 // Whether, after a put of which the nth call of the disk failed, and a crash, opening finds the pair.
 fn put_stopped(alloc: Global, n: u64, image: u8) -> Option<bool> {
     let mut disk = MemoryDisk::new(alloc);
