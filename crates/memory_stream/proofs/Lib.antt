@@ -1,0 +1,4 @@
+pub mod Serials
+pub mod Growth
+pub mod Offers
+pub mod Offsets
