@@ -12,7 +12,7 @@ use Rattle.epoch_coordinator.specs.declared.tail.Tail.{Tail}
 use Rattle.epoch_coordinator.specs.Members.{MemberRole, MemberState, Stopped, Follower, Leader}
 use Rattle.epoch_coordinator.specs.Coordinators.{CoordinatorState}
 use Rattle.replication_laws.specs.Cluster.{Seat, Reign, ClusterState, seat, member, durable, reign, HoldsBy, Holds}
-use Rattle.replication_laws.specs.Soundness.{Tree, IsRooted, IsMark, LeadsEpoch, HasReign, LeadsWith, JobHolds, RoleHolds, MemberHolds, ReignHolds, TreeHolds, PhaseHolds, CoordinatorHolds, Kept}
+use Rattle.replication_laws.specs.Soundness.{Tree, IsRooted, IsMark, LeadsEpoch, HasReign, LeadsWith, JobHolds, RoleHolds, MemberHolds, ReignHolds, TreeHolds, OwnBehind, PhaseHolds, CoordinatorHolds, Kept}
 use Rattle.replication_laws.proofs.Logs.{goes_one, goes_empty, same_begins, none_begins, front_epoch, log_push, run_front, front_end, front_below, nil_or, IsTree, rooted_front, run_gives, earlier_begins}
 use Rattle.replication_laws.proofs.Meetings.{majorities}
 use Rattle.replication_laws.proofs.Frame.{Advance, ElectsOn, has_reign_on, leads_on, ask_on, reply_on, shape_on}
@@ -70,7 +70,7 @@ member_on g g' w w' k s logs a elects same leads h = record {
 }
 
 pub reign_on : (g g' : Tree) (w w' : ClusterState) (e : ℕ) (r : Reign) (a : Advance g w g' w')
-    → reign w e ≡ Some r → ((g'.canon e ≡ []) ⊎ GoesOn (g'.base e) (g'.canon e))
+    → reign w e ≡ Some r → OwnBehind g' e
     → ReignHolds g w e r → ReignHolds g' w' e r
 reign_on g g' w w' e r a is begins h =
     let b = a.bases e (r, is) in
@@ -262,7 +262,7 @@ kept_on g g' w w' o l t t' a same old members reigns h =
                     | inr z ↦ goes_on l (g'.base q.0) h' lbase z
                     | inl z ↦ elim rh.begins [
                       | inl nil ↦ (let e0 : h' ≡ [] = none_begins h' (rw nil at z) in let bad : last_epoch l < 0 = rw e0 at lt in absurd (omega arith))
-                      | inr p ↦ earlier_begins l h' (g'.canon q.0) (goes_on l (g'.base q.0) (g'.canon q.0) lbase p) z r.1 lt
+                      | inr p ↦ earlier_begins l h' (g'.canon q.0) (goes_on l (g'.base q.0) (g'.canon q.0) lbase (p.0, p.1)) z r.1 lt
                     ]
                   ]
             ]

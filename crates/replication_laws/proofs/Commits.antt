@@ -94,7 +94,7 @@ commit_kept g w o k list voters s leads pre te ack =
                   | inr (inl early) ↦ absurd (omega (arith, te, late, lt, early))
                   | inr (inr hr) ↦ elim (s.each_reign d hr.0 hr.1).begins [
                     | inl nil ↦ some nil
-                    | inr p ↦ earlier_begins list x (g.canon d) (goes_on list (g.base d) (g.canon d) (base hr) p) r (log_front list m.log pre h.is_log) lt
+                    | inr p ↦ earlier_begins list x (g.canon d) (goes_on list (g.base d) (g.canon d) (base hr) (p.0, p.1)) r (log_front list m.log pre h.is_log) lt
                   ]
                 ]
           ];

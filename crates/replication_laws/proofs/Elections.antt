@@ -119,7 +119,7 @@ elect_reign g w o l r co ms s none late elects ran re rl exact sent =
           let rh = s.each_reign d rd.0 rd.1 in
           elim (runs_either rd.0.runs e m) [
             | inl reached ↦
-                let p : GoesOn (g.base d) (g.canon d) = elim rh.begins [ inl nil ↦ absurd (some nil) | inr p ↦ p ] in
+                let p : GoesOn (g.base d) (g.canon d) = elim rh.begins [ inl nil ↦ absurd (some nil) | inr p ↦ (p.0, p.1) ] in
                 elim (goes_either (g.base d) log (g.canon d) p ml.rooted) [
                   | inl q ↦ inl (run_front (g.base d) log e m q ((rh.runs e m).0 reached))
                   | inr q ↦ (let y = front_below log (g.base d) (last_epoch (g.base d)) q rh.base_log (omega arith) in absurd (omega (arith, rh.base_below, y)))

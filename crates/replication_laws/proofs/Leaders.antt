@@ -17,8 +17,8 @@ use Rattle.epoch_coordinator.specs.Tails.{tail_of}
 use Rattle.epoch_coordinator.specs.Members.{Leading, MemberRole, MemberState, Stopped, Leader, job_chunks, role_chunks, sequence_of}
 use Rattle.epoch_coordinator.specs.MemberSteps.{mail, zeros, new_leading, raise, next_job, behind_first}
 use Rattle.replication_laws.specs.Cluster.{Seat, ClusterState, seat, member, IsMember, put, send, HoldsBy, Holds}
-use Rattle.replication_laws.specs.Soundness.{Tree, IsRooted, Follows, LeadsEpoch, HasReign, AskHolds, AskElects, AppendHolds, IsRest, IsQuiet, LeadsWith, JobHolds, acked, LeaderHolds, RoleHolds, LeaderLine, LineHolds, MemberHolds, TreeHolds, Sound, TailMark}
-use Rattle.replication_laws.proofs.Logs.{goes_none, goes_one, same_begins, begins_as, front_below, same_ends, same_tail_is, log_push, front_follows, run_front, rooted_front, run_gives}
+use Rattle.replication_laws.specs.Soundness.{Tree, IsRooted, Follows, LeadsEpoch, HasReign, AskHolds, AskElects, AppendHolds, IsRest, IsQuiet, LeadsWith, JobHolds, acked, LeaderHolds, RoleHolds, LeaderLine, LineHolds, MemberHolds, OwnBehind, TreeHolds, Sound, TailMark}
+use Rattle.replication_laws.proofs.Logs.{none_begins, goes_none, goes_one, same_begins, begins_as, front_below, same_ends, same_tail_is, log_push, front_follows, run_front, rooted_front, run_gives}
 use Rattle.replication_laws.proofs.Frame.{Advance, elects_on}
 use Rattle.replication_laws.proofs.Carry.{is_tree, rooted_on, job_on, role_on, holds_log, base_of, coordinator_on}
 use Rattle.replication_laws.proofs.Sounds.{all_weaker, all_join, all_numbered, seat_put, seat_else, member_put, member_else, count_put, named_put, After, SentHolds, sound_on, keeps_by_cover, put_sound}
@@ -299,6 +299,16 @@ next_line_holds p log (c ∷ cs) l on es te queue opened = record {
   is_new = λ z. let both : true ≡ false = sym opened ∙ z in absurd cc;
 }
 
+-- a leader's log with its chunk goes on from where its reign began by chunks of the epoch alone
+pub own_log : (g : Tree) (e : ℕ) (log : List Chunk) (c : Chunk) → LeadsWith g e log → OwnBehind g e → c.epoch ≡ e → (own : List Chunk) × (log ++ c ∷ [] ≡ g.base e ++ own) × AllByRecursion (λ (d : Chunk). d.epoch ≡ e) own
+own_log g e log c (inl x) own ce = (c ∷ [], ap (λ (l : List Chunk). l ++ c ∷ []) x.1, (ce, tt))
+own_log g e log c (inr x) (inl nil) ce =
+    let none : log ≡ [] = x.0 ∙ nil in
+    let base : g.base e ≡ [] = none_begins (g.base e) (begins_as (g.base e) log [] none x.1) in
+    (c ∷ [], ap (λ (l : List Chunk). l ++ c ∷ []) (none ∙ sym base), (ce, tt))
+own_log g e log c (inr x) (inr y) ce =
+    (y.0 ++ c ∷ [], ap (λ (l : List Chunk). l ++ c ∷ []) (x.0 ∙ y.1) ∙ append_assoc (g.base e) y.0 (c ∷ []), all_join (λ (d : Chunk). d.epoch ≡ e) y.0 (c ∷ []) y.2 (ce, tt))
+
 -- a leader's chunk is on its disk: after its job, or after a restart; another may be its next job
 pub own_written : (g : Tree) (w : ClusterState) (o k : ℕ) (c : Chunk) (job' : Option Job) (role : MemberRole) (ms : List Sent) → Sound g o w → IsMember w k
     → (member w k).job ≡ Some (Write c) → LeadsEpoch w (member w k).promise k
@@ -327,6 +337,7 @@ own_written g w o k c job' role ms s lt job leads holds jobs line roles appends 
     ] in
     let grows = grown_grows g e l up in
     let base : GoesOn (g.base e) l = goes_on (g.base e) m.log l (base_of g e m.log lw) (goes_one m.log c) in
+    let own_behind : (own : List Chunk) × (l ≡ g.base e ++ own) × AllByRecursion (λ (d : Chunk). d.epoch ≡ e) own = own_log g e m.log c lw ((s.each_reign e leads.0 leads.1).begins) ce in
     let logs : (x : ℕ) → IsLog (g'.canon x) = λ x. elim (cases_eq x e) [
       | inl eq ↦ rw (eq, eq-eqb e e refl) is_log
       | inr ne ↦ rw (ne_eqb x e ne) (s.tree.logs x)
@@ -395,7 +406,7 @@ own_written g w o k c job' role ms s lt job leads holds jobs line roles appends 
           (λ j ne ld x. let other : ((member w j).promise ≡ e → ⊥) = (λ eq. ne (leads_unique w e j k (rw eq at ld) leads)) in
           rw (ne_eqb (member w j).promise e other) x)
           (λ x r is. elim (cases_eq x e) [
-            | inl eq ↦ rw (eq, eq-eqb e e refl) (inr base)
+            | inl eq ↦ rw (eq, eq-eqb e e refl) (inr own_behind)
             | inr ne ↦ rw (ne_eqb x e ne) ((s.each_reign x r is).begins)
           ])
           (rw (seat_put w k (is_up n) lt) (record {

@@ -22,3 +22,4 @@ pub mod Snapshots
 pub mod Refusals
 pub mod Claims
 pub mod Causes
+pub mod Consequences

@@ -14,7 +14,7 @@ use Rattle.epoch_coordinator.specs.Members.{MemberState}
 use Rattle.epoch_coordinator.specs.MemberSteps.{has_epoch}
 use Rattle.replication_laws.specs.Majorities.{votes, is_voter}
 use Rattle.replication_laws.specs.Cluster.{Seat, ClusterState, nobody, seat, member, durable, last_number, HoldsBy, Holds, MayPromise}
-use Rattle.replication_laws.specs.Openings.{Start, no_start, start_at, opened_cluster, IsWhole, Agrees, Diverges, IsRecovered}
+use Rattle.replication_laws.specs.Openings.{upto, Start, no_start, start_at, opened_cluster, IsWhole, Agrees, Diverges, IsRecovered}
 use Rattle.replication_laws.specs.Soundness.{Tree, IsRooted, LeadsEpoch, LeadsWith, JobHolds, Kept, Sound, IsSound}
 use Rattle.replication_laws.specs.Properties.{IsLogProperty, SoundWith}
 use Rattle.replication_laws.proofs.Logs.{goes_none, goes_empty, goes_one, same_begins, begins_as, none_begins, front_epoch, rooted_front}
@@ -22,7 +22,7 @@ use Rattle.replication_laws.proofs.Carry.{is_tree, held_log, held_below}
 use Rattle.replication_laws.proofs.Followers.{leads_unique}
 use Rattle.replication_laws.proofs.Takings.{eq_is}
 use Rattle.replication_laws.proofs.Walks.{or_cases, or_right}
-use Rattle.replication_laws.proofs.Starts.{upto, upto_front, in_upto, upto_epoch, start_count, start_there, agrees_at, AgreeAt, AllAgree, log_at, past_log, SeatOf, Of_start, Of_nobody, seat_of, start_agreed, start_with}
+use Rattle.replication_laws.proofs.Starts.{upto_front, in_upto, upto_epoch, start_count, start_there, agrees_at, AgreeAt, AllAgree, log_at, past_log, SeatOf, Of_start, Of_nobody, seat_of, start_agreed, start_with}
 use Rattle.replication_laws.proofs.Properties.{all_have}
 
 -- the beginning up to e of a log that a disk may have: it begins the longest log of e, or has the chunk that the leader of e was writing
@@ -64,7 +64,7 @@ upto_kind g w o k e h s x te = go (member w k).job (s.each_member k).job x
     ]
 
 -- a longest log begins what its leader is writing
-under : (g : Tree) (w : ClusterState) (o k e : ℕ) (c : Chunk) (xs : List Chunk) → Sound g o w → (member w k).promise ≡ e → LeadsEpoch w e k → GoesOn xs (g.canon e) → GoesOn xs ((member w k).log ++ c ∷ [])
+pub under : (g : Tree) (w : ClusterState) (o k e : ℕ) (c : Chunk) (xs : List Chunk) → Sound g o w → (member w k).promise ≡ e → LeadsEpoch w e k → GoesOn xs (g.canon e) → GoesOn xs ((member w k).log ++ c ∷ [])
 under g w o k e c xs s pe leads p =
     let m = member w k in
     let lead : LeadsWith g e m.log = subst (λ (n : ℕ). LeadsWith g n m.log) pe ((s.each_member k).leads (subst (λ (n : ℕ). LeadsEpoch w n k) (sym pe) leads)) in
@@ -74,7 +74,7 @@ under g w o k e c xs s pe leads p =
     ]
 
 -- of two logs that disks may have, one begins the other up to each epoch that both have
-held_agree : (g : Tree) (w : ClusterState) (o a b e : ℕ) (ha hb : List Chunk) → Sound g o w → Holds (member w a) ha → Holds (member w b) hb → (a ≡ b → ha ≡ hb) → AgreeAt e ha hb
+pub held_agree : (g : Tree) (w : ClusterState) (o a b e : ℕ) (ha hb : List Chunk) → Sound g o w → Holds (member w a) ha → Holds (member w b) hb → (a ≡ b → ha ≡ hb) → AgreeAt e ha hb
 held_agree g w o a b e ha hb s xa xb one ta tb =
     elim (upto_kind g w o a e ha s xa ta) [
       | inl p ↦ elim (upto_kind g w o b e hb s xb tb) [
@@ -168,14 +168,14 @@ reopened_kept w epoch ss l r h = record {
 -- ---- logs that agree don't diverge
 
 -- a chunk of an epoch stands somewhere
-record Stands (e : ℕ) (log : List Chunk) : Type 0 where
+pub record Stands (e : ℕ) (log : List Chunk) : Type 0 where
   pub front : List Chunk
   pub chunk : Chunk
   pub rest : List Chunk
   pub parts : log ≡ (front ++ chunk ∷ []) ++ rest
   pub epoch_is : chunk.epoch ≡ e
 
-stands_by : (e : ℕ) (log : List Chunk) → has_epoch e log ≡ true → Stands e log
+pub stands_by : (e : ℕ) (log : List Chunk) → has_epoch e log ≡ true → Stands e log
 stands_by e [] h = absurd cc
 stands_by e (c ∷ cs) h = go (or_cases (c.epoch == e) (has_epoch e cs) h) (stands_by e cs)
   where
@@ -184,7 +184,7 @@ stands_by e (c ∷ cs) h = go (or_cases (c.epoch == e) (has_epoch e cs) h) (stan
     go (inr x) on = (let r = on x in record { front = c ∷ r.front; chunk = r.chunk; rest = r.rest; parts = ap (λ (l : List Chunk). c ∷ l) r.parts; epoch_is = r.epoch_is })
 
 -- a log with a chunk of e ends in e up to it
-upto_ends : (e : ℕ) (log : List Chunk) → IsLog log → has_epoch e log ≡ true → last_epoch (upto e log) ≡ e
+pub upto_ends : (e : ℕ) (log : List Chunk) → IsLog log → has_epoch e log ≡ true → last_epoch (upto e log) ≡ e
 upto_ends e log is h =
     let x = stands_by e log h in
     let p = x.front ++ x.chunk ∷ [] in

@@ -11,7 +11,7 @@ use Rattle.epoch_coordinator.specs.declared.message.Sent.{Sent}
 use Rattle.epoch_coordinator.specs.Tails.{tail_of}
 use Rattle.epoch_coordinator.specs.Members.{MemberState}
 use Rattle.replication_laws.specs.Cluster.{Seat, Letter, Reign, ClusterState, nobody, seat, member, IsMember, placed, put, reign, last_number, numbered, send, Holds}
-use Rattle.replication_laws.specs.Soundness.{Tree, IsMark, Lacks, AllReach, LeadsEpoch, HasReign, IsCalm, LeadsWith, MessageHolds, LetterHolds, MemberHolds, ReignHolds, TreeHolds, CoordinatorHolds, Kept, Sound}
+use Rattle.replication_laws.specs.Soundness.{Tree, IsMark, Lacks, AllReach, LeadsEpoch, HasReign, IsCalm, LeadsWith, MessageHolds, LetterHolds, MemberHolds, OwnBehind, ReignHolds, TreeHolds, CoordinatorHolds, Kept, Sound}
 use Rattle.replication_laws.proofs.Logs.{run_front}
 use Rattle.replication_laws.proofs.Frame.{Sources, Advance, Fits, ElectsOn, elects_on, letter_on}
 use Rattle.replication_laws.proofs.Carry.{member_on, reign_on, coordinator_on, kept_on}
@@ -75,7 +75,7 @@ pub sound_on : (g g' : Tree) (w w' : ClusterState) (o j : ℕ) → Sound g o w �
     → w'.reigns ≡ w.reigns → (Advance g w g' w' → CoordinatorHolds o w' w'.coordinator) → (((l : List Chunk) → Kept w l → Kept w' l) → Kept w' w'.committed)
     → TreeHolds g' w' o
     → ((k : ℕ) → (k ≡ j → ⊥) → LeadsEpoch w (member w k).promise k → LeadsWith g (member w k).promise (member w k).log → LeadsWith g' (member w k).promise (member w k).log)
-    → ((e : ℕ) (r : Reign) → reign w e ≡ Some r → (g'.canon e ≡ []) ⊎ GoesOn (g'.base e) (g'.canon e))
+    → ((e : ℕ) (r : Reign) → reign w e ≡ Some r → OwnBehind g' e)
     → MemberHolds g' w' j (seat w' j) → Named w' j
     → (AllByRecursion (LetterHolds g' w') w.mail → AllByRecursion (LetterHolds g' w') w'.mail)
     → After g o w g' w'

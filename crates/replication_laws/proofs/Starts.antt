@@ -13,7 +13,7 @@ use Rattle.epoch_coordinator.specs.MemberSteps.{has_epoch, restarted, commit_end
 use Rattle.epoch_coordinator.specs.Coordinators.{opened_with, untold}
 use Rattle.replication_laws.specs.Majorities.{votes, IsMajority}
 use Rattle.replication_laws.specs.Cluster.{Seat, ClusterState, nobody, seat, member, IsMember, last_number}
-use Rattle.replication_laws.specs.Openings.{Start, no_start, start_at, start_seats, opened_cluster, IsWhole, Diverges, Agrees, Begins, Is_begun, Parts, CanStart}
+use Rattle.replication_laws.specs.Openings.{upto, Start, no_start, start_at, start_seats, opened_cluster, IsWhole, Diverges, Agrees, Begins, Is_begun, Parts, CanStart}
 use Rattle.replication_laws.specs.Soundness.{Tree, IsRooted, HasReign, MemberHolds, Kept, Sound, IsSound, IsCommitted}
 use Rattle.replication_laws.specs.Properties.{IsLogProperty, SoundWith}
 use Rattle.replication_laws.proofs.Logs.{goes_none, goes_empty, same_begins, begins_as, none_begins, front_end, front_epoch}
@@ -23,10 +23,6 @@ use Rattle.replication_laws.proofs.Walks.{or_cases, or_left, or_right}
 use Rattle.replication_laws.proofs.Coordinating.{untold_count}
 
 -- ---- the beginning of a log whose chunks have an epoch of at most e
-
-abbrev pub upto : ℕ → List Chunk → List Chunk
-upto e [] = []
-upto e (c ∷ cs) = if nat_le c.epoch e then c ∷ upto e cs else []
 
 behind_one : (c : Chunk) (a b : List Chunk) → GoesOn a b → GoesOn (c ∷ a) (c ∷ b)
 behind_one c a b p = (p.0, ap (λ (l : List Chunk). c ∷ l) p.1)

@@ -6,3 +6,4 @@ pub mod Properties
 pub mod Openings
 pub mod Literals
 pub mod Confirms
+pub mod Clauses

@@ -1,5 +1,5 @@
 -- A stream that is opened over what disks had.
-use Rattle.std.specs.Prelude.{◌≡◌, ℕ, ◌+◌, ◌<◌, ◌≤◌, ◌≢◌, ◌⊎◌, true, List, [], ◌∷◌, ◌++◌, length, slice_index_or}
+use Rattle.std.specs.Prelude.{◌≡◌, ℕ, ◌+◌, ◌<◌, ◌≤◌, ◌≢◌, ◌⊎◌, true, nat_le, if◌then◌else◌, List, [], ◌∷◌, ◌++◌, length, slice_index_or}
 use Rattle.chunk_format.specs.declared.chunk.Chunk.{Chunk}
 use Rattle.chunk_format.specs.Logs.{GoesOn, end_of, last_epoch, IsLog}
 use Rattle.epoch_coordinator.specs.MemberSteps.{has_epoch, restarted}
@@ -35,6 +35,11 @@ opened_cluster epoch starts = record {
   last = 0;
   committed = [];
 }
+
+-- the beginning of a log whose chunks have an epoch of at most e
+abbrev pub upto : ℕ → List Chunk → List Chunk
+upto e [] = []
+upto e (c ∷ cs) = if nat_le c.epoch e then c ∷ upto e cs else []
 
 -- ---- the tests of an opening
 

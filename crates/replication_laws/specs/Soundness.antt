@@ -208,6 +208,10 @@ pub record MemberHolds (g : Tree) (w : ClusterState) (k : ℕ) (s : Seat) : Type
 
 -- ---- what a reign has
 
+-- the longest log of an epoch is empty, or goes on from where its reign began by chunks of the epoch alone
+abbrev pub OwnBehind : Tree → ℕ → Type 0
+OwnBehind g epoch = (g.canon epoch ≡ []) ⊎ ((own : List Chunk) × (g.canon epoch ≡ g.base epoch ++ own) × AllByRecursion (λ (c : Chunk). c.epoch ≡ epoch) own)
+
 -- A majority elected it, each of them and its leader has promised its epoch, and its runs are those of the log from which it began.
 pub record ReignHolds (g : Tree) (w : ClusterState) (epoch : ℕ) (r : Reign) : Type 0 where
   pub not_ahead : epoch ≤ durable w
@@ -218,8 +222,7 @@ pub record ReignHolds (g : Tree) (w : ClusterState) (epoch : ℕ) (r : Reign) : 
   pub base_log : IsLog (g.base epoch)
   pub base_rooted : IsRooted g.canon (g.base epoch)
   pub base_below : last_epoch (g.base epoch) < epoch
-  -- the longest log of the epoch is empty, or goes on from the one from which the reign began
-  pub begins : (g.canon epoch ≡ []) ⊎ GoesOn (g.base epoch) (g.canon epoch)
+  pub begins : OwnBehind g epoch
 
 -- ---- the tree
 

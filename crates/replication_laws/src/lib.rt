@@ -2,12 +2,14 @@
 //! comes back. Each function does nothing; its contract is the law.
 #![tactic(auto)]
 
+mod clause_laws;
 mod confirm_laws;
 mod event_laws;
 mod opening_laws;
 mod property_laws;
 mod refused_runs;
 
+pub use clause_laws::a_sound_stream;
 pub use confirm_laws::{
     Claim, an_offer_is_what_its_confirm_claims, an_open_leaders_sequence_stays,
     claims_wait_and_stand,
