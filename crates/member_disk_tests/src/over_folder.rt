@@ -125,3 +125,27 @@ fn a_path_that_cannot_be_made_fails(rt: HostRuntime) -> Result<(), Fail> {
     fs::remove_file(&rt, FOLDER)?;
     Ok(())
 }
+
+#[test]
+fn a_failed_sync_is_made_good(rt: HostRuntime) -> Result<(), Fail> {
+    const FOLDER: &str = "member_disk_sync";
+    const FILE: &str = "member_disk_sync/7/00000000000000000012.index";
+    fs::create_dir_all(&rt, FOLDER)?;
+    let mut disk = DirDisk::new(rt.clone()?, String::from_str(rt.alloc(), FOLDER)?);
+    assert_eq!(rt; disk.write_at(INDEX, 0, b"hello"), DiskDid::Done);
+    // The file is gone, so its sync fails.
+    fs::remove_file(&rt, FILE)?;
+    assert_eq!(rt; disk.sync(INDEX), DiskDid::Failed);
+    // A folder stands in its place: it can be synced, but has no bytes that can be written again.
+    fs::create_dir_all(&rt, FILE)?;
+    assert_eq!(rt; disk.sync(INDEX), DiskDid::Failed);
+    let mut other = DirDisk::new(rt.clone()?, String::from_str(rt.alloc(), FOLDER)?);
+    assert_eq!(rt; other.sync(INDEX), DiskDid::Done);
+    // The file is there again: its bytes are written again and synced.
+    fs::remove_dir_all(&rt, FILE)?;
+    assert_eq!(rt; disk.write_at(INDEX, 0, b"hello"), DiskDid::Done);
+    assert_eq!(rt; disk.sync(INDEX), DiskDid::Done);
+    assert!(rt; holds(rt.alloc(), &mut disk, INDEX, b"hello"));
+    fs::remove_dir_all(&rt, FOLDER)?;
+    Ok(())
+}
