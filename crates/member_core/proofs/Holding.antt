@@ -1,5 +1,5 @@
 -- What a member keeps stays right, and shows the member after a step.
-use Rattle.std.proofs.Common.{◌≡◌, ℕ, zero, suc, ◌+◌, ◌≤◌, Bool, true, false, List, [], ◌∷◌, ◌++◌, length, take, Option, Some, None, Result, Ok, Err, OnOk, OnErr, is_some, refl, sym, ap, subst, ◌∙◌, append_assoc, arith}
+use Rattle.std.proofs.Common.{◌≡◌, ℕ, zero, suc, ◌≤◌, Bool, true, false, List, [], ◌∷◌, ◌++◌, take, Option, Some, None, Result, Ok, Err, OnOk, OnErr, is_some, refl, sym, ap, subst, ◌∙◌, append_assoc, arith}
 use Rattle.std.specs.Prelude.{◌&&◌, if◌then◌else◌, ℤ}
 use Rattle.std.proofs.lemmas.List.{append-nil}
 use Rattle.chunk_format.specs.declared.chunk.Chunk.{Chunk}
@@ -11,14 +11,14 @@ use Rattle.epoch_coordinator.specs.declared.message.Message.TheVariants as messa
 use Rattle.epoch_coordinator.specs.declared.message.Sent.{Sent}
 use Rattle.epoch_coordinator.specs.declared.message.Job.{Job}
 use Rattle.epoch_coordinator.specs.declared.message.Job.TheVariants as jobs
-use Rattle.epoch_coordinator.specs.Members.{Leading, MemberRole, MemberState, Stopped, Follower, Leader, is_stopped}
-use Rattle.epoch_coordinator.specs.MemberSteps.{mail, Took, silent, behind_first, cut_at, asks, tail_after, wrote, zeros, new_leading, stamp_at, can_open, after_open}
+use Rattle.epoch_coordinator.specs.Members.{MemberRole, MemberState, Stopped, Follower, Leader, is_stopped}
+use Rattle.epoch_coordinator.specs.MemberSteps.{mail, Took, silent, behind_first, cut_at, wrote, zeros, stamp_at, can_open, after_open}
 use Rattle.member_log.specs.Kept.{LogState, whole, only, with_chunk}
 use Rattle.member_log.proofs.EndLaws.{tail_push}
 use Rattle.member_core.specs.declared.duty.Lead.{Lead}
 use Rattle.member_core.specs.declared.duty.Duty.{Duty}
 use Rattle.member_core.specs.declared.duty.Duty.TheVariants as duties
-use Rattle.member_core.specs.States.{role_of, WaitsFor, Queues, Leads, IsWrite, Promises, IsMember, IsOpen, followed, wrote_mail}
+use Rattle.member_core.specs.States.{role_of, WaitsFor, Queues, Leads, IsMember, IsOpen, followed, wrote_mail}
 
 -- the member that is seen
 abbrev pub shown : ℕ → ℕ → ℕ → Duty → LogState → Option Job → MemberState

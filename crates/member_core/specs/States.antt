@@ -1,5 +1,5 @@
 -- What a member keeps, seen as a member of the rules of replication.
-use Rattle.std.specs.Prelude.{◌≡◌, ℕ, ◌+◌, ◌≤◌, ◌&&◌, ◌||◌, ◌==◌, if◌then◌else◌, nat_le, Bool, true, false, List, [], ◌∷◌, ◌++◌, map, take, Option, Some, None}
+use Rattle.std.specs.Prelude.{◌≡◌, ℕ, ◌+◌, ◌≤◌, ◌&&◌, ◌||◌, ◌==◌, if◌then◌else◌, nat_le, Bool, true, false, List, [], ◌∷◌, map, take, Option, Some, None}
 use Rattle.chunk_format.specs.declared.chunk.Chunk.{Chunk}
 use Rattle.chunk_format.specs.Chunks.{end_of_chunk}
 use Rattle.chunk_format.specs.Logs.{last_epoch}
@@ -11,7 +11,7 @@ use Rattle.epoch_coordinator.specs.declared.message.Sent.{Sent}
 use Rattle.epoch_coordinator.specs.declared.message.Job.{Job}
 use Rattle.epoch_coordinator.specs.declared.message.Job.TheVariants as jobs
 use Rattle.epoch_coordinator.specs.Tails.{same_tail, tail_of, runs_of}
-use Rattle.epoch_coordinator.specs.Members.{Leading, MemberRole, MemberState, Stopped, Follower, Leader, sequence_of}
+use Rattle.epoch_coordinator.specs.Members.{Leading, MemberRole, MemberState, Stopped, Follower, Leader}
 use Rattle.epoch_coordinator.specs.MemberSteps.{behind_first, Took, tail_after, other_members, mail, raise, is_majority, reaching, names_another, epoch_of, is_later_stop}
 use Rattle.member_log.specs.Kept.{LogState, whole}
 use Rattle.member_core.specs.declared.duty.Lead.{Lead}

@@ -1,6 +1,6 @@
 //! A member and what it knows.
 
-ghost use Rattle.std.specs.Prelude.{◌≡◌, ◌≤◌, ◌<◌, ◌++◌, length, Some, None, OnOk, OnErr, IfOk, MatchOption};
+ghost use Rattle.std.specs.Prelude.{◌≡◌, ◌≤◌, ◌<◌, ◌++◌, length, Some, None, OnOk, OnErr, IfOk, IsTrue, MatchOption};
 ghost use Rattle.chunk_format.specs.Logs.{IsLog, Truthful, last_epoch, end_of};
 ghost use Rattle.chunk_format.specs.ByName.{Greatest, LastStored, first_seen, tag_names, stored_names, snapshot_body};
 ghost use Rattle.epoch_coordinator.specs.Tails.{tail_of};
@@ -8,7 +8,7 @@ ghost use Rattle.epoch_coordinator.specs.Members.{sequence_of, job_chunks, role_
 ghost use Rattle.epoch_coordinator.specs.MemberSteps.{restarted, says_stopped, asks, nudged};
 ghost use Rattle.epoch_coordinator.specs.Offers.{since_snapshot};
 ghost use Rattle.member_log.specs.Kept.{bytes_of, plain_count};
-ghost use Rattle.member_core.specs.States.{told_role, is_open, followed};
+ghost use Rattle.member_core.specs.States.{told_role, is_open, followed, IsOpen};
 
 use crate::duty::{Duty, Role};
 use crate::send::one;
@@ -82,9 +82,13 @@ impl Member {
         })
     }
 
-    /// The chunks of its log.
+    /// The chunks of its log: one after the other from offset 0 on, in epochs that don't fall and
+    /// aren't above its promise, with truthful snapshots.
     pub fn log(&self) -> &[Stored]
-        ensures { result.now ≡ self.now.log }
+        ensures log { result.now ≡ self.now.log }
+        ensures is_log { IsLog self.now.log }
+        ensures truthful { Truthful self.now.log }
+        ensures promised { last_epoch self.now.log ≤ self.now.promise }
     {
         self.log.log()
     }
@@ -203,9 +207,10 @@ impl Member {
         }
     }
 
-    /// Whether it leads and is opened.
-    pub(crate) fn is_open(&self) -> bool
-        ensures { result ≡ is_open self.now.role }
+    /// Whether it leads and is opened: then it takes offers.
+    pub fn is_open(&self) -> bool
+        ensures is { result ≡ is_open self.now.role }
+        ensures open { IsTrue result → IsOpen self.now.role }
     {
         match &self.duty {
             Duty::Stopped => false,

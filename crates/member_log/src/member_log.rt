@@ -117,6 +117,7 @@ impl MemberLog {
     pub fn log(&self) -> &[Stored]
         ensures log { result.now ≡ self.now.log }
         ensures is_log { IsLog (whole self.now) }
+        ensures truthful { Truthful (whole self.now) }
     {
         &self.chunks[..self.written]
     }

@@ -1,4 +1,4 @@
-use Rattle.std.proofs.Common.{ℕ, ◌≤◌, sym, ap, subst, refl}
+use Rattle.std.proofs.Common.{◌≤◌, sym, subst, refl}
 use Rattle.epoch_coordinator.specs.Members.{MemberState}
 use Rattle.member_core.specs.States.{IsOpen}
 use Rattle.member_core.proofs.Holding.{some_job, no_job, put_open, put_idle}
