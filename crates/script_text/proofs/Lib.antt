@@ -1,0 +1,5 @@
+pub mod Decimals
+pub mod HexText
+pub mod Splits
+pub mod Readings
+pub mod OneOutput

@@ -31,13 +31,13 @@ abbrev pub output_words : OutputLine → List ℕ
 output_words (Sent connection frame) = codes "> " ++ (decimal connection ++ space ∷ encode_lower frame)
 output_words (Bye connection how) = codes "bye " ++ (decimal connection ++ space ∷ ending_words how)
 output_words (Committed stream chunk) = codes "k " ++ (decimal stream ++ space ∷ encode_lower chunk)
-output_words (Message stream number receiver kind epoch) = codes "m " ++ (numbers stream (number ∷ receiver ∷ []) ++ (space ∷ (kind_word kind ++ (space ∷ decimal epoch))))
+output_words (Message stream number receiver kind epoch) = codes "m " ++ (decimal stream ++ space ∷ (decimal number ++ space ∷ (decimal receiver ++ space ∷ (kind_word kind ++ space ∷ decimal epoch))))
 output_words (Later stream member) = codes "later " ++ numbers stream (member ∷ [])
 output_words (Down stream member) = codes "down " ++ numbers stream (member ∷ [])
 output_words (Up stream member count end) = codes "up " ++ numbers stream (member ∷ count ∷ end ∷ [])
 output_words (CoordinatorUp stream epoch) = codes "up " ++ numbers stream (0 ∷ epoch ∷ [])
 output_words (Log stream member count end) = codes "l " ++ numbers stream (member ∷ count ∷ end ∷ [])
-output_words (LogDown stream member) = codes "l " ++ (numbers stream (member ∷ []) ++ codes " -")
+output_words (LogDown stream member) = codes "l " ++ (decimal stream ++ space ∷ (decimal member ++ codes " -"))
 output_words (Refused code) = codes "no " ++ code_word code
 output_words End = codes "end"
 output_words (Bad number) = codes "bad " ++ decimal number

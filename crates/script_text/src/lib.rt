@@ -3,6 +3,7 @@
 
 mod output;
 mod script;
+mod word;
 
-pub use output::{Ending, MessageKind, OutputLine};
-pub use script::{LineFault, ScriptLine};
+pub use output::{Ending, MessageKind, OutputLine, outputs_have_one_reading, write_output};
+pub use script::{LineFault, ScriptLine, lines_have_one_reading, read_line};
