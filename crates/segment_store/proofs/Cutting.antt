@@ -1,0 +1,2 @@
+-- Cuts of a log.
+use Rattle.std.proofs.Common.{◌≡◌, ℕ}

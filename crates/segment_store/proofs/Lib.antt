@@ -1,0 +1,4 @@
+pub mod Table
+pub mod Writing
+pub mod Wording
+pub mod Cutting

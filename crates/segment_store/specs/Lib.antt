@@ -1,0 +1,5 @@
+pub mod Rows
+pub mod Jobs
+pub mod Words
+pub mod Receipts
+pub mod Faults
