@@ -2,3 +2,4 @@ pub mod Table
 pub mod Writing
 pub mod Wording
 pub mod Cutting
+pub mod Trimming

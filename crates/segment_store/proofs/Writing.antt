@@ -55,7 +55,7 @@ row_of_one : (x : Segment) (cs : List Chunk) (row : ChunkAt) → slice_get ([] +
 row_of_one x [] row is = absurd (cc is)
 row_of_one x (c ∷ cs) row is = omega arith
 
-some_if : (x : Segment) (older : List Segment) (row : ChunkAt) → slice_get (rows_of (x ∷ older)) (length (rows_of (x ∷ older)) - 1) ≡ Some row → CanLook x older → 0 < length x.chunks
+pub some_if : (x : Segment) (older : List Segment) (row : ChunkAt) → slice_get (rows_of (x ∷ older)) (length (rows_of (x ∷ older)) - 1) ≡ Some row → CanLook x older → 0 < length x.chunks
 some_if x [] row is can = row_of_one x x.chunks row is
 some_if x (y ∷ older) row is can = elim can.filled [ inl only ↦ absurd (cc only) | inr some ↦ some ]
 

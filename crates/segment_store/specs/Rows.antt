@@ -4,7 +4,9 @@ use Rattle.disk_calls.specs.Disk.{DiskState}
 use Rattle.chunk_format.specs.declared.chunk.Chunk.{Chunk}
 use Rattle.chunk_format.specs.Chunks.{end_of_chunk}
 use Rattle.segment_pairs.specs.Log.{size_of, segment_of}
-use Rattle.segment_pairs.specs.Held.{Segment, Held}
+use Rattle.segment_pairs.specs.Held.{Segment, Held, all_chunks}
+use Rattle.chunk_format.specs.Logs.{GoesOn}
+use Rattle.epoch_coordinator.specs.MemberSteps.{cut_at}
 use Rattle.segment_store.specs.declared.rows.ChunkAt.{ChunkAt}
 use Rattle.segment_store.specs.declared.rows.LastAt.{LastAt}
 
@@ -74,3 +76,27 @@ pub record IsLast (x : Segment) (last : LastAt) : Type 0 where
   pub segment : last.segment ≡ x.number
   pub count : last.count ≡ length x.chunks
   pub size : last.size ≡ length (segment_of x.chunks)
+
+-- a log may be cut at an offset in its last segment
+pub record CanTrim (stream end kept : ℕ) (rows : List ChunkAt) (last : Segment) (older : List Segment) (s : DiskState) : Type 0 where
+  pub stands : LogStands stream rows (last ∷ older) s
+  pub low : (last.number < end) ⊎ (last.number ≡ 0)
+  pub ends : FrontEnds rows kept end
+
+-- the segments behind which an offset stands are gone: what is left of a log ends in the one where it is cut
+pub record Dropped (stream end kept : ℕ) (rows : List ChunkAt) (segments : List Segment) (s : DiskState) : Type 0 where
+  pub last : Segment
+  pub older : List Segment
+  pub can : CanTrim stream end kept rows last older s
+  pub same : cut_at end (all_chunks (last ∷ older)) ≡ cut_at end (all_chunks segments)
+  pub front : GoesOn (all_chunks (last ∷ older)) (all_chunks segments)
+
+-- the last row is of a segment above 0 that begins at an offset or behind it
+pub record IsBehind (end : ℕ) (rows : List ChunkAt) (row : ChunkAt) : Type 0 where
+  pub is : slice_get rows (length rows - 1) ≡ Some row
+  pub from : end ≤ row.segment
+  pub some : 0 < row.segment
+
+-- it isn't, or there is none
+abbrev pub NoneBehind : ℕ → List ChunkAt → Type 0
+NoneBehind end rows = (row : ChunkAt) → slice_get rows (length rows - 1) ≡ Some row → (row.segment < end) ⊎ (row.segment ≡ 0)

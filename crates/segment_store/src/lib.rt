@@ -1,6 +1,7 @@
 //! A member's files.
 #![tactic(auto)]
 
+mod cut;
 mod epochs;
 mod fault;
 mod receipt;
