@@ -1,13 +1,13 @@
 -- What the calls that make and remove files leave of them.
-use Rattle.std.proofs.Common.{◌≡◌, ◌⊎◌, inl, inr, ℕ, ◌≤◌, [], ◌∷◌, length, Some, None, refl, sym, ap, subst, arith}
+use Rattle.std.proofs.Common.{◌≡◌, ◌⊎◌, inl, inr, ℕ, ◌≤◌, [], ◌∷◌, length, Some, None, refl, sym, ap, subst, arith, List, ◌++◌}
 use Rattle.disk_calls.specs.Disk.{DiskState, Image, bytes_of, Settled, Only, Elsewhere, Changes, RemovedFile}
 use Rattle.disk_calls.specs.Frames.{EachImage, AtMost}
 use Rattle.chunk_format.specs.declared.chunk.Chunk.{Chunk}
 use Rattle.chunk_format.specs.Chunks.{IsChunk}
-use Rattle.segment_pairs.specs.Log.{Finder, pair_log, segment_of, index_of}
+use Rattle.segment_pairs.specs.Log.{Finder, segment_header, index_header, pair_log, segment_of, index_of}
 use Rattle.segment_pairs.specs.Held.{segment_file, index_file, Stands, Missing, OldOrNew, EachPair, GoneOrBefore}
 use Rattle.segment_pairs.proofs.Pairs.{pair_new, pair_short}
-use Rattle.segment_pairs.proofs.Moving.{apart, apart_back, settled_stays}
+use Rattle.segment_pairs.proofs.Moving.{apart, apart_back, settled_stays, settled_is}
 
 -- an index that is missing or short has no records
 pub none_log : (F : Finder) (n : ℕ) (a b : Image) → length (bytes_of b) ≤ 8 → pair_log F n (bytes_of a, bytes_of b) ≡ []
@@ -66,3 +66,15 @@ index_goes_away stream n s t changes a b left_a left_b =
 -- once it is gone
 pub segment_goes_away : (stream n : ℕ) (s t u : DiskState) → Only None (t.images (index_file stream n)) → Elsewhere (segment_file stream n) t u → GoneOrBefore stream n s u
 segment_goes_away stream n s t u none stays a b left_a left_b = inl (none b (stays.images (index_file stream n) (apart_back stream n n) b left_b))
+
+-- an index of at most a header has no log
+pub no_log : (stream n : ℕ) (s : DiskState) → EachImage (index_file stream n) (AtMost 8) s → EachPair stream n (λ l. l ≡ []) s
+no_log stream n s short F a b left_a left_b = none_log F n a b (short b left_b)
+
+pub both_begun : (stream : ℕ) (seg idx : List ℕ) (t u : DiskState) → seg ≡ segment_header → idx ≡ index_header → Settled (segment_file stream 0) seg t → Settled (index_file stream 0) idx u → Elsewhere (index_file stream 0) t u → Stands stream (record { number = 0; chunks = [] }) u
+unfolding segment_of index_of
+both_begun stream seg idx t u is_seg is_idx now index stays = record {
+  segment = settled_stays (index_file stream 0) (segment_file stream 0) (segment_header ++ []) t u (apart stream 0 0) stays (settled_is (segment_file stream 0) seg segment_header t is_seg now);
+  index = settled_is (index_file stream 0) idx index_header u is_idx index;
+  chain = tt;
+}

@@ -11,5 +11,7 @@ mod pair;
 mod stream;
 
 pub use look::{Headless, Seen, Walk, look_at};
-pub use pair::{cut_pair, make_pair, remove_pair, segment_bytes, trim_pair, write_pair};
+pub use pair::{
+    begin_pair, cut_pair, make_pair, remove_pair, segment_bytes, trim_pair, write_pair,
+};
 pub use stream::{cut_last, remove_last, write_last, write_new};

@@ -138,6 +138,29 @@ pub fn make_pair<D: Disk>(
     make_file(disk, index, &index_bytes)
 }
 
+/// Begins the log of a stream with segment 0 without chunks: the headers of a segment and an index. Its calls of the disk
+/// are `write_at` and `sync` of each.
+pub fn begin_pair<D: Disk>(disk: &mut D, stream: u32) -> DiskDid
+    requires { D.tells → Missing stream 0 (D.state disk.old) }
+    ensures images { D.tells → EachPair stream 0 (λ l. l ≡ []) (D.state disk.new) }
+    ensures done { D.tells → result ≡ DiskDid.Done → Stands stream (record { number = 0; chunks = [] }) (D.state disk.new) }
+    ensures others { BesidesPair stream 0 (D.state disk.old) (D.state disk.new) }
+    ensures cause { HasCause (result ≡ DiskDid.Failed) (D.state disk.old) (D.state disk.new) }
+{
+    let segment = FileId {
+        stream,
+        file: FileName::Segment(0),
+    };
+    let index = FileId {
+        stream,
+        file: FileName::Index(0),
+    };
+    if let DiskDid::Failed = make_file(disk, segment, &SEGMENT_HEADER) {
+        return DiskDid::Failed;
+    }
+    make_file(disk, index, &INDEX_HEADER)
+}
+
 /// Removes a segment, its index first. Its calls of the disk are `remove` of each.
 pub fn remove_pair<D: Disk>(disk: &mut D, stream: u32, number: u64) -> DiskDid
     ensures images { GoneOrBefore stream number (D.state disk.old) (D.state disk.new) }

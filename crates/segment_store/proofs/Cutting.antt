@@ -1,12 +1,11 @@
 -- Cuts of a log.
-use Rattle.std.proofs.Common.{◌≡◌, ◌≢◌, ◌⊎◌, inl, inr, ℕ, zero, suc, ◌+◌, ◌*◌, ◌-◌, ◌≤◌, ◌<◌, ◌^◌, List, [], ◌∷◌, ◌++◌, length, take, drop, Bool, true, false, Some, None, slice_get, get_or, filter, nat_le, refl, sym, ◌∙◌, ap, subst, arith, append_assoc, length-append, take-append-drop}
-use Rattle.std.proofs.lemmas.List.{append-nil, length-take, take_at}
+use Rattle.std.proofs.Common.{◌≡◌, inl, inr, ℕ, zero, suc, ◌-◌, ◌≤◌, ◌<◌, ◌^◌, List, [], ◌∷◌, ◌++◌, length, take, drop, true, false, Some, slice_get, get_or, nat_le, refl, sym, ◌∙◌, ap, subst, arith, take-append-drop}
+use Rattle.std.proofs.lemmas.List.{append-nil}
 use Rattle.std.proofs.lemmas.List.Elements.{filter-append}
 use Rattle.std.proofs.lemmas.Bool.{cases_lt}
 use Rattle.std.proofs.lemmas.Option.{slice_get_past, slice_get_within, slice_get-get_or}
-use Rattle.std.proofs.Math.Seq.{take-append_seam}
 use Rattle.chunk_format.specs.declared.chunk.Chunk.{Chunk}
-use Rattle.chunk_format.specs.Chunks.{end_of_chunk, IsChunk}
+use Rattle.chunk_format.specs.Chunks.{end_of_chunk}
 use Rattle.chunk_format.specs.Logs.{GoesOn, end_from, end_of}
 use Rattle.chunk_format.proofs.LinkLaws.{chunk_goes_on, end_push}
 use Rattle.disk_calls.specs.Disk.{DiskState}

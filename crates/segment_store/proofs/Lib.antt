@@ -3,3 +3,4 @@ pub mod Writing
 pub mod Wording
 pub mod Cutting
 pub mod Trimming
+pub mod Beginning

@@ -1,20 +1,16 @@
 -- The table of a log's chunks.
-use Rattle.std.proofs.Common.{◌≡◌, ◌≢◌, ◌⊎◌, inl, inr, ℕ, zero, suc, ◌+◌, ◌*◌, ◌-◌, ◌≤◌, ◌<◌, ◌^◌, List, [], ◌∷◌, ◌++◌, length, take, drop, Bool, true, false, Option, Some, None, slice_get, refl, sym, ◌∙◌, ap, subst, arith, append_assoc, length-append, leb, if◌then◌else◌}
-use Rattle.std.proofs.lemmas.List.{append-nil}
+use Rattle.std.proofs.Common.{◌≡◌, ◌⊎◌, inl, inr, ℕ, zero, suc, ◌+◌, ◌-◌, ◌≤◌, ◌<◌, List, [], ◌∷◌, ◌++◌, length, Some, slice_get, refl, sym, ◌∙◌, ap, subst, arith, length-append}
 use Rattle.std.proofs.lemmas.Bool.{cases_lt}
-use Rattle.std.proofs.lemmas.Option.{slice_get_past, slice_get_within}
 use Rattle.disk_calls.specs.Disk.{DiskState}
 use Rattle.chunk_format.specs.declared.chunk.Chunk.{Chunk}
 use Rattle.chunk_format.specs.Chunks.{end_of_chunk, IsChunk}
 use Rattle.chunk_format.specs.Logs.{end_from, end_of}
 use Rattle.chunk_format.proofs.LinkLaws.{chunk_goes_on}
-use Rattle.segment_pairs.specs.Log.{spelled, size_of, Chain, flat, segment_of, index_of}
-use Rattle.segment_pairs.specs.Held.{Segment, all_chunks, Stands, HeldBelow, Held}
-use Rattle.segment_pairs.proofs.Reading.{some_bytes}
-use Rattle.segment_pairs.proofs.Pairs.{length-segment, length-index, end_from-append}
-use Rattle.segment_pairs.proofs.Lifting.{grows}
+use Rattle.segment_pairs.specs.Log.{spelled, size_of, Chain, flat, segment_of}
+use Rattle.segment_pairs.specs.Held.{Segment, all_chunks, HeldBelow}
+use Rattle.segment_pairs.proofs.Pairs.{length-segment, end_from-append}
 use Rattle.segment_store.specs.declared.rows.ChunkAt.{ChunkAt}
-use Rattle.segment_store.specs.Rows.{row_of, rows_at, rows_of, IsFilled, LogStands, EndsAt, FrontEnds}
+use Rattle.segment_store.specs.Rows.{row_of, rows_at, rows_of, IsFilled}
 
 pub length-rows_at : (n nth place : ℕ) (cs : List Chunk) → length (rows_at n nth place cs) ≡ length cs
 length-rows_at n nth place [] = refl

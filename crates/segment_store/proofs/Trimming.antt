@@ -1,17 +1,15 @@
 -- The segments that a cut removes, and the one in which it cuts.
-use Rattle.std.proofs.Common.{◌≡◌, ◌≢◌, ◌⊎◌, inl, inr, ℕ, zero, suc, ◌+◌, ◌*◌, ◌-◌, ◌≤◌, ◌<◌, ◌^◌, min, List, [], ◌∷◌, ◌++◌, length, take, drop, Some, None, slice_get, get_or, refl, sym, ◌∙◌, ap, subst, arith, append_assoc, length-append, take-append-drop}
-use Rattle.std.proofs.lemmas.List.{append-nil, length-take, length-drop, take_at, take_all, take-append-le}
-use Rattle.std.proofs.lemmas.Option.{slice_get_past, slice_get_within, slice_get-get_or}
+use Rattle.std.proofs.Common.{◌≡◌, ◌⊎◌, inl, inr, ℕ, zero, suc, ◌+◌, ◌*◌, ◌-◌, ◌≤◌, ◌<◌, ◌^◌, List, [], ◌∷◌, ◌++◌, length, take, drop, Some, None, slice_get, get_or, refl, sym, ◌∙◌, ap, subst, arith, append_assoc, length-append, take-append-drop}
+use Rattle.std.proofs.lemmas.List.{append-nil, length-take, length-drop, take_all, take-append-le}
+use Rattle.std.proofs.lemmas.Option.{slice_get_within, slice_get-get_or}
 use Rattle.std.proofs.lemmas.List.Elements.{filter-append}
 use Rattle.std.proofs.lemmas.Bool.{cases_lt}
 use Rattle.std.proofs.Math.Seq.{take-append_seam, take-append-add}
-use Rattle.disk_calls.specs.Disk.{DiskState, Image}
-use Rattle.disk_calls.specs.declared.file_id.FileId.{FileId}
+use Rattle.disk_calls.specs.Disk.{DiskState}
 use Rattle.chunk_format.specs.declared.chunk.Chunk.{Chunk}
-use Rattle.chunk_format.specs.Chunks.{end_of_chunk}
-use Rattle.chunk_format.specs.Logs.{GoesOn, end_from, end_of}
+use Rattle.chunk_format.specs.Logs.{end_from, end_of}
 use Rattle.epoch_coordinator.specs.MemberSteps.{cut_at}
-use Rattle.segment_pairs.specs.Log.{Finder, size_of, flat, LogOf, segment_of, index_of}
+use Rattle.segment_pairs.specs.Log.{size_of, flat, LogOf, segment_of}
 use Rattle.segment_pairs.specs.Held.{Segment, all_chunks, Held, HeldBelow, EachLog, Front, CanCut, files_of}
 use Rattle.segment_pairs.proofs.Pairs.{length-segment, length-index, end_from-append}
 use Rattle.segment_pairs.proofs.Lifting.{front_less, front_all}
@@ -19,8 +17,8 @@ use Rattle.segment_pairs.proofs.Many.{log_held}
 use Rattle.segment_store.specs.declared.rows.ChunkAt.{ChunkAt}
 use Rattle.segment_store.specs.Rows.{row_of, rows_at, rows_of, IsFilled, LogStands, FrontEnds, IsKept, CanTrim, Dropped, CanLook, IsBehind, NoneBehind}
 use Rattle.segment_store.specs.Jobs.{Between}
-use Rattle.segment_store.proofs.Table.{length-rows, length-rows_at, get_behind, get_front, row_behind, Chained, chained_below, chained_chain, chained_grows, chained_front, chained_behind, row_chunk, row_chunk_at, LastRow, last_row, filled_below}
-use Rattle.segment_store.proofs.Writing.{can_look, chain_few, some_if, no_rows, no_last, held_at}
+use Rattle.segment_store.proofs.Table.{length-rows, length-rows_at, get_behind, get_front, row_behind, Chained, chained_below, chained_chain, chained_grows, chained_behind, row_chunk_at, LastRow, last_row, filled_below}
+use Rattle.segment_store.proofs.Writing.{can_look, chain_few, some_if, no_last, held_at}
 use Rattle.segment_store.proofs.Cutting.{later, cut_is, kept_one, front_between, all_cut}
 
 -- nothing is cut yet

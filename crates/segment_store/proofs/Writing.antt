@@ -1,23 +1,21 @@
 -- Writing behind a log.
-use Rattle.std.proofs.Common.{◌≡◌, ◌≢◌, ◌⊎◌, inl, inr, ℕ, zero, suc, ◌+◌, ◌*◌, ◌-◌, ◌≤◌, ◌<◌, ◌^◌, List, [], ◌∷◌, ◌++◌, length, Bool, true, false, Option, Some, None, Result, slice_get, get_or, refl, sym, ◌∙◌, ap, subst, arith, append_assoc, length-append, leb, if◌then◌else◌}
+use Rattle.std.proofs.Common.{◌≡◌, ◌⊎◌, inl, inr, ℕ, zero, suc, ◌+◌, ◌*◌, ◌-◌, ◌≤◌, ◌<◌, ◌^◌, List, [], ◌∷◌, ◌++◌, length, Bool, true, false, Some, None, Result, slice_get, get_or, refl, sym, ◌∙◌, ap, subst, arith, append_assoc, length-append, leb, if◌then◌else◌}
 use Rattle.std.specs.Prelude.{OnOk}
-use Rattle.std.proofs.lemmas.List.{append-nil}
-use Rattle.std.proofs.lemmas.Bool.{cases_lt, le-leb, lt-leb}
+use Rattle.std.proofs.lemmas.Bool.{le-leb, lt-leb}
 use Rattle.std.proofs.lemmas.Option.{slice_get-get_or}
-use Rattle.disk_calls.specs.Disk.{DiskState, Image}
-use Rattle.disk_calls.specs.declared.file_id.FileId.{FileId}
+use Rattle.disk_calls.specs.Disk.{DiskState}
 use Rattle.chunk_format.specs.declared.chunk.Chunk.{Chunk}
 use Rattle.chunk_format.specs.Chunks.{end_of_chunk, IsChunk}
 use Rattle.chunk_format.specs.Logs.{end_from, end_of}
-use Rattle.segment_pairs.specs.Log.{Finder, spelled, size_of, Chain, flat, LogOf, segment_of, index_of}
-use Rattle.segment_pairs.specs.Held.{Segment, all_chunks, Picks, files_of, Stands, HeldBelow, Held, EachLog, OldOrNew, CanWrite, CanBegin, Filled}
+use Rattle.segment_pairs.specs.Log.{size_of, Chain, flat, segment_of}
+use Rattle.segment_pairs.specs.Held.{Segment, all_chunks, Held, EachLog, OldOrNew, CanWrite, CanBegin, Filled}
 use Rattle.segment_pairs.proofs.Reading.{some_bytes}
 use Rattle.segment_pairs.proofs.Pairs.{length-segment, length-index, end_from-append}
 use Rattle.segment_pairs.proofs.Many.{log_held}
 use Rattle.segment_store.specs.declared.rows.ChunkAt.{ChunkAt}
 use Rattle.segment_store.specs.declared.rows.LastAt.{LastAt}
-use Rattle.segment_store.specs.Rows.{row_of, rows_at, rows_of, IsFilled, LogStands, EndsAt, FrontEnds, CanLook, IsLast, grown}
-use Rattle.segment_store.proofs.Table.{length-rows, rows-append, LastRow, last_row, length-rows_at, row_chunk}
+use Rattle.segment_store.specs.Rows.{row_of, rows_at, rows_of, LogStands, FrontEnds, CanLook, IsLast, grown}
+use Rattle.segment_store.proofs.Table.{length-rows, rows-append, last_row}
 
 -- the places of a chain are u32, so it is short
 chain_short : (place end : ℕ) (cs : List Chunk) → Chain place end cs → (cs ≡ []) ⊎ (place + length cs ≤ 2 ^ 32)

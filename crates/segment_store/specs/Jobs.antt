@@ -1,5 +1,5 @@
 -- What a job does to the log of a member.
-use Rattle.std.specs.Prelude.{◌≡◌, ◌⊎◌, ℕ, List, [], ◌∷◌, ◌++◌}
+use Rattle.std.specs.Prelude.{ℕ, List}
 use Rattle.chunk_format.specs.declared.chunk.Chunk.{Chunk}
 use Rattle.chunk_format.specs.Logs.{GoesOn}
 use Rattle.epoch_coordinator.specs.MemberSteps.{cut_at}

@@ -3,3 +3,4 @@ pub mod Jobs
 pub mod Words
 pub mod Receipts
 pub mod Faults
+pub mod Logs

@@ -1,5 +1,5 @@
 -- What pairs of a stream and a word stand for: the promises of a member, and the epochs of streams.
-use Rattle.std.specs.Prelude.{◌≡◌, ◌⊎◌, ℕ, List, [], ◌∷◌, ◌==◌, if◌then◌else◌}
+use Rattle.std.specs.Prelude.{ℕ, List, [], ◌∷◌, ◌==◌, if◌then◌else◌}
 use Rattle.disk_calls.specs.declared.file_id.FileId.{FileId}
 use Rattle.disk_calls.specs.declared.file_id.FileName.TheVariants as name
 use Rattle.disk_calls.specs.Disk.{DiskState}

@@ -33,12 +33,7 @@ pub(crate) fn cut_log<D: Disk>(
 }
 
 // Removes the segments above 0 that begin at an offset or behind it, from the last on.
-fn drop_segments<D: Disk>(
-    disk: &mut D,
-    stream: u32,
-    rows: &mut Vec<ChunkAt>,
-    end: u64,
-) -> DiskDid
+fn drop_segments<D: Disk>(disk: &mut D, stream: u32, rows: &mut Vec<ChunkAt>, end: u64) -> DiskDid
     requires { D.tells → (segments : List Segment) × (kept : ℕ) × LogStands stream rows.old.items segments (D.state disk.old) × FrontEnds rows.old.items kept end }
     ensures images { D.tells → (segments : List Segment) (kept : ℕ) → LogStands stream rows.old.items segments (D.state disk.old) → FrontEnds rows.old.items kept end → EachLog stream (Between end (all_chunks segments)) (D.state disk.new) }
     ensures done { D.tells → result ≡ DiskDid.Done → (segments : List Segment) (kept : ℕ) → LogStands stream rows.old.items segments (D.state disk.old) → FrontEnds rows.old.items kept end → Dropped stream end kept rows.new.items segments (D.state disk.new) }
@@ -51,7 +46,10 @@ fn drop_segments<D: Disk>(
             if let DiskDid::Failed = remove_last(disk, stream, last.segment) {
                 return DiskDid::Failed;
             }
-            let left = rows.len().saturating_sub(last.nth as usize).saturating_sub(1);
+            let left = rows
+                .len()
+                .saturating_sub(last.nth as usize)
+                .saturating_sub(1);
             rows.truncate(left);
             drop_segments(disk, stream, rows, end)
         }
@@ -80,12 +78,7 @@ fn row_at(rows: &[ChunkAt], at: usize) -> Option<ChunkAt>
 }
 
 // Cuts the last segment, which begins before an offset or at 0, to the chunks that end there.
-fn trim_chunks<D: Disk>(
-    disk: &mut D,
-    stream: u32,
-    rows: &mut Vec<ChunkAt>,
-    end: u64,
-) -> DiskDid
+fn trim_chunks<D: Disk>(disk: &mut D, stream: u32, rows: &mut Vec<ChunkAt>, end: u64) -> DiskDid
     requires { D.tells → (last : Segment) × (older : List Segment) × (kept : ℕ) × CanTrim stream end kept rows.old.items last older (D.state disk.old) }
     ensures images { D.tells → (last : Segment) (older : List Segment) (kept : ℕ) → CanTrim stream end kept rows.old.items last older (D.state disk.old) → EachLog stream (Between end (all_chunks (last ∷ older))) (D.state disk.new) }
     ensures done { D.tells → result ≡ DiskDid.Done → (last : Segment) (older : List Segment) (kept : ℕ) → CanTrim stream end kept rows.old.items last older (D.state disk.old) → (now : List Segment) × LogStands stream rows.new.items now (D.state disk.new) × (all_chunks now ≡ cut_at end (all_chunks (last ∷ older))) }
@@ -97,8 +90,13 @@ fn trim_chunks<D: Disk>(
         None => DiskDid::Done,
         Some(first) => {
             let index_size = index_place(first.nth);
-            if let DiskDid::Failed = cut_last(disk, stream, first.segment, first.place, index_size)
-            {
+            if let DiskDid::Failed = cut_last(
+                disk,
+                stream,
+                first.segment,
+                first.place,
+                index_size,
+            ) {
                 return DiskDid::Failed;
             }
             rows.truncate(kept);

@@ -1,6 +1,6 @@
 use Rattle.std.proofs.lemmas.List.{length-take}
 use Rattle.std.proofs.lemmas.Option.{slice_get_within}
-use Rattle.std.proofs.Common.{◌≡◌, ◌<◌, ◌-◌, ℕ, List, length, take, refl, sym, ◌∙◌, ap, arith, subst, rules}
+use Rattle.std.proofs.Common.{◌≡◌, ◌<◌, ◌-◌, ℕ, List, length, ap, arith, subst, rules}
 use Rattle.segment_pairs.specs.Held.{Segment}
 use Rattle.segment_pairs.proofs.Lifting.{outside_log, outside_then}
 use Rattle.segment_pairs.proofs.Moving.{did_done}

@@ -1,4 +1,4 @@
-use Rattle.std.proofs.Common.{◌≡◌, ◌∷◌, List, sym, ◌∙◌}
+use Rattle.std.proofs.Common.{◌∙◌}
 use Rattle.segment_pairs.proofs.Moving.{did_done}
 use Rattle.segment_store.proofs.Trimming.{all_between}
 use Rattle.segment_store.proofs.cut.cut_log.Goals as goal

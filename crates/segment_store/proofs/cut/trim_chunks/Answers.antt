@@ -1,4 +1,4 @@
-use Rattle.std.proofs.Common.{◌≡◌, ◌∷◌, ℕ, List, Some, None, slice_get, refl, sym, ◌∙◌, ap, arith, subst}
+use Rattle.std.proofs.Common.{◌∷◌, List, slice_get, sym, ◌∙◌, ap, subst}
 use Rattle.segment_pairs.proofs.Lifting.{outside_log}
 use Rattle.segment_pairs.proofs.Moving.{did_done}
 use Rattle.segment_store.specs.declared.rows.ChunkAt.{ChunkAt}

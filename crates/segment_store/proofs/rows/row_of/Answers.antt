@@ -1,4 +1,4 @@
-use Rattle.std.proofs.Common.{◌≡◌, ◌+◌, ℕ, length, ap, sym, ◌∙◌, arith}
+use Rattle.std.proofs.Common.{◌≡◌, ◌+◌, length, ap, sym, ◌∙◌, arith}
 use Rattle.chunk_format.specs.declared.chunk.Header.{Header}
 use Rattle.segment_pairs.specs.Log.{size_of}
 use Rattle.segment_pairs.proofs.Reading.{spelled_is}

@@ -1,6 +1,4 @@
-use Rattle.std.proofs.Common.{◌≡◌, arith, refl, sym, ◌∙◌}
-use Rattle.chunk_format.specs.Chunks.{IsChunk}
-use Rattle.segment_pairs.specs.Held.{Segment, Held}
+use Rattle.std.proofs.Common.{arith, refl}
 use Rattle.segment_pairs.proofs.Lifting.{outside_log}
 use Rattle.segment_pairs.proofs.Moving.{did_done}
 use Rattle.segment_store.proofs.Writing.{old_log, can_write, held_at, chunk_added}

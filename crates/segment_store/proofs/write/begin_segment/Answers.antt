@@ -1,6 +1,5 @@
-use Rattle.std.proofs.Common.{◌≡◌, arith, refl, sym, ◌∙◌, ap, ◌∷◌, ℕ}
+use Rattle.std.proofs.Common.{◌≡◌, arith, refl, ap, ◌∷◌}
 use Rattle.chunk_format.specs.declared.chunk.Header.{Header}
-use Rattle.segment_pairs.specs.Held.{Segment, Held}
 use Rattle.segment_pairs.proofs.Lifting.{outside_log}
 use Rattle.segment_pairs.proofs.Moving.{did_done}
 use Rattle.segment_store.proofs.Writing.{old_log, can_begin, segment_added, ends_there}

@@ -1,7 +1,4 @@
-use Rattle.std.proofs.Common.{◌≡◌, ◌≤◌, arith, refl, sym, ◌∙◌, ◌∷◌, length}
-use Rattle.std.specs.Prelude.{OnOk}
-use Rattle.segment_pairs.specs.Held.{EachLog, OldOrNew, all_chunks}
-use Rattle.segment_store.specs.Rows.{LogStands, grown}
+use Rattle.std.proofs.Common.{arith, ◌∙◌}
 use Rattle.segment_store.proofs.Writing.{can_look, first_of, images_first, done_first}
 use Rattle.segment_store.proofs.write.write_chunk.Goals as goal
 
