@@ -1,15 +1,18 @@
-//! A member's files.
+//! A log over the segments of a disk, and the epochs of streams on the disk of the coordinator.
+//!
+//! A chunk begins a new segment where that of the last chunk has at least 262,144 bytes; a segment is named by the
+//! first offset of its first chunk. A table tells where each chunk stands.
 #![tactic(auto)]
 
 mod cut;
 mod epochs;
 mod fault;
-mod member_log;
 mod receipt;
 mod rows;
+mod segment_log;
 mod write;
 
 pub use epochs::EpochStore;
 pub use fault::StoreFault;
-pub use member_log::MemberLog;
 pub use receipt::Receipt;
+pub use segment_log::SegmentLog;

@@ -1,4 +1,4 @@
-//! A member's log.
+//! A log over the segments of a disk.
 
 ghost use Rattle.std.specs.Prelude.{◌≡◌, ◌∷◌, [], List, ℕ, IfOk, IsErrOf, OnOk};
 ghost use Rattle.disk_calls.specs.Disk.{HasCause};
@@ -24,13 +24,13 @@ use std::marker::Model;
 /// what it cuts. A contract sees the stream and this table. After a call that the disk failed it is used no more, nor
 /// after a crash.
 #[derive(Drop)]
-pub struct MemberLog {
+pub struct SegmentLog {
     alloc: Global,
     stream: u32,
     rows: Vec<ChunkAt>,
 }
 
-impl Model for MemberLog {
+impl Model for SegmentLog {
     ghost use Rattle.segment_store.specs.Logs.{LogInHand};
 
     ghost Value = { LogInHand };
@@ -38,9 +38,13 @@ impl Model for MemberLog {
     ghost view = { λ l. record { stream = l.stream; rows = l.rows.items } };
 }
 
-impl MemberLog {
+impl SegmentLog {
     /// Begins the log of a stream that has no files: segment 0 without chunks. It takes no memory.
-    pub fn begin<D: Disk>(alloc: Global, disk: &mut D, stream: u32) -> Result<MemberLog, StoreFault>
+    pub fn begin<D: Disk>(
+        alloc: Global,
+        disk: &mut D,
+        stream: u32,
+    ) -> Result<SegmentLog, StoreFault>
         requires { D.tells → NoLog stream (D.state disk.old) }
         ensures images { D.tells → EachLog stream (λ log. log ≡ []) (D.state disk.new) }
         ensures stands { D.tells → IfOk result (λ log. Standing log (record { number = 0; chunks = [] } ∷ []) (D.state disk.new)) }
@@ -52,7 +56,7 @@ impl MemberLog {
         if let DiskDid::Failed = begin_pair(disk, stream) {
             return Err(StoreFault::Disk);
         }
-        Ok(MemberLog {
+        Ok(SegmentLog {
             alloc,
             stream,
             rows,

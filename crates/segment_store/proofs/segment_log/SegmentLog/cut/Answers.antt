@@ -3,7 +3,7 @@ use Rattle.segment_pairs.specs.Held.{EachLog, all_chunks}
 use Rattle.segment_store.specs.Rows.{FrontEnds}
 use Rattle.segment_store.specs.Jobs.{Between}
 use Rattle.segment_store.specs.Logs.{LogInHand, Standing}
-use Rattle.segment_store.proofs.member_log.MemberLog.cut.Goals as goal
+use Rattle.segment_store.proofs.segment_log.SegmentLog.cut.Goals as goal
 
 pub cut_log-requires : goal.cut_log-requires
 cut_log-requires g c = λ told.

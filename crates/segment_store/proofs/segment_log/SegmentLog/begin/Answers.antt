@@ -2,7 +2,7 @@ use Rattle.std.proofs.Common.{arith}
 use Rattle.segment_pairs.proofs.Lifting.{outside_log}
 use Rattle.segment_pairs.proofs.Moving.{did_done}
 use Rattle.segment_store.proofs.Beginning.{begun_empty, begun_stands}
-use Rattle.segment_store.proofs.member_log.MemberLog.begin.Goals as goal
+use Rattle.segment_store.proofs.segment_log.SegmentLog.begin.Goals as goal
 
 pub begin_pair-requires : goal.begin_pair-requires
 begin_pair-requires g c = λ told. c.requires told 0 (omega arith) (omega arith)
