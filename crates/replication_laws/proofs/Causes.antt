@@ -1,6 +1,6 @@
 -- What an offer's confirm claims is true of the sequence after the offer, and stays true.
-use Rattle.std.proofs.Common.{◌≡◌, ℕ, ◌+◌, ◌*◌, ◌/◌, ◌^◌, ◌<◌, ◌≤◌, ◌⊎◌, List, [], ◌∷◌, ◌++◌, length, length-append, map, take, drop, refl, sym, ap, ◌∙◌, subst, append_assoc, inl, inr, arith, Option, Some, None, Bool, true, false, cond, zero, suc}
-use Rattle.std.specs.Prelude.{ℤ, ◌==◌, ◌&&◌, not, nat_lt, if◌then◌else◌, max}
+use Rattle.std.proofs.Common.{◌≡◌, ℕ, ◌+◌, ◌*◌, ◌^◌, ◌<◌, ◌≤◌, List, [], ◌∷◌, ◌++◌, length, map, take, drop, refl, sym, ap, ◌∙◌, subst, inl, inr, arith, Option, Some, None, Bool, true, false, cond, zero, suc}
+use Rattle.std.specs.Prelude.{ℤ, ◌==◌, nat_lt, max}
 use Rattle.std.specs.List.{AllByRecursion, All, flat_map, reduce}
 use Rattle.std.proofs.lemmas.List.{append-nil, take-append-drop, length-drop}
 use Rattle.std.proofs.lemmas.Grind.{flat_map-append}
@@ -13,23 +13,23 @@ use Rattle.chunk_format.specs.declared.chunk.Chunk.{Chunk}
 use Rattle.chunk_format.specs.Chunks.{IsChunk, HasRecords, entry_records, records_of, end_of_chunk}
 use Rattle.chunk_format.specs.Tags.{Tag}
 use Rattle.chunk_format.specs.LogRows.{Rows, rows_from, rows_by_kind, chunk_rows, first_tag, after_tag}
-use Rattle.chunk_format.specs.Logs.{GoesOn, end_from, end_of, last_epoch, Linked, IsLog, opening_chunk, bare, bare_by, bare_of, is_within, bare_within, bare_in}
+use Rattle.chunk_format.specs.Logs.{end_from, end_of, last_epoch, Linked, IsLog, opening_chunk, bare, bare_by, bare_of, is_within, bare_within, bare_in}
 use Rattle.chunk_format.specs.ByName.{ids_of, Greatest, greater, AtMost}
 use Rattle.chunk_format.proofs.LinkLaws.{end_join, linked_front, linked_behind, end_past}
 use Rattle.chunk_format.proofs.NameLaws.{ids_join, reduce_join, greatest_join, at_most_left, at_most_right, at_most_grows}
 use Rattle.chunk_format.proofs.BareLaws.{bare_join, bare_in_join, bare_in_stays}
-use Rattle.epoch_coordinator.specs.Offers.{Item, is_new, rising_from, accepted, user_chunk, since_snapshot, snapshot_every, with_snapshot, most_entries, laid, chunk_count, offered_chunks}
+use Rattle.epoch_coordinator.specs.Offers.{Item, is_new, rising_from, user_chunk, since_snapshot, snapshot_every, with_snapshot, most_entries, laid, chunk_count, offered_chunks}
 use Rattle.replication_laws.specs.Events.{IsOffer}
 use Rattle.replication_laws.specs.Confirms.{Stands, Caused}
-use Rattle.replication_laws.proofs.Snapshots.{SaysIds, chunk_says, with_says, each_left, each_right, map_join, rising_fits}
+use Rattle.replication_laws.proofs.Snapshots.{chunk_says, with_says, each_left, each_right, map_join, rising_fits}
 
 -- ---- with a name: each id is reached
 
 -- the chunks of an offer are enough for its items
-back_fits : (n : ℕ) (items : List Item) → length items ≤ suc n * 4096 → length (drop most_entries items) ≤ n * 4096
+pub back_fits : (n : ℕ) (items : List Item) → length items ≤ suc n * 4096 → length (drop most_entries items) ≤ n * 4096
 back_fits n items h = (let e = length-drop 4096 items in omega (arith, e, h))
 
-enough : (n : ℕ) → n ≤ chunk_count n * 4096
+pub enough : (n : ℕ) → n ≤ chunk_count n * 4096
 enough n = omega arith
 
 -- what is laid out says just the items' ids, in order
@@ -60,7 +60,7 @@ all_map : {A : Type 0} (P Q : A → Type 0) → ((x : A) → P x → Q x) → (x
 all_map P Q f [] h = tt
 all_map P Q f (x ∷ xs) h = (f x h.0, all_map P Q f xs h.1)
 
-not_new : (g : Option ℕ) (id : ℕ) → is_new g id ≡ false → AtMost id g
+pub not_new : (g : Option ℕ) (id : ℕ) → is_new g id ≡ false → AtMost id g
 not_new None id h = absurd cc
 not_new (Some n) id h = le n id h
   where
@@ -112,7 +112,7 @@ entries_join : (a b : List Item) → map (λ (i : Item). i.entry) (a ++ b) ≡ m
 entries_join [] b = refl
 entries_join (x ∷ a) b = ap (λ (l : List Entry). x.entry ∷ l) (entries_join a b)
 
-laid_bare : (n epoch : ℕ) (stamp : ℤ) (list : List Chunk) (items : List Item) → length items ≤ n * 4096 → bare_of (laid n epoch stamp [] list items) ≡ map (λ (i : Item). i.entry) items
+pub laid_bare : (n epoch : ℕ) (stamp : ℤ) (list : List Chunk) (items : List Item) → length items ≤ n * 4096 → bare_of (laid n epoch stamp [] list items) ≡ map (λ (i : Item). i.entry) items
 laid_bare zero epoch stamp list [] h = refl
 laid_bare zero epoch stamp list (i ∷ items) h = absurd (omega (arith, h))
 laid_bare (suc n) epoch stamp list items h =

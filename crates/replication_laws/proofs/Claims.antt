@@ -1,31 +1,29 @@
 -- What waits stands in the running leader's sequence, and in the committed list once that reaches it.
-use Rattle.std.proofs.Common.{◌≡◌, ℕ, ◌<◌, ◌≤◌, ◌⊎◌, List, [], ◌∷◌, ◌++◌, length, refl, sym, ap, ◌∙◌, subst, append_assoc, inl, inr, arith, Option, Some, None, Bool, true, false, cond, zero, suc}
+use Rattle.std.proofs.Common.{◌≡◌, ℕ, ◌<◌, ◌≤◌, ◌⊎◌, List, ◌++◌, refl, sym, ap, ◌∙◌, subst, append_assoc, inl, inr, arith, Option, Some, None, Bool, true, false, cond, zero, suc}
 use Rattle.std.specs.Prelude.{nat_lt}
-use Rattle.std.proofs.lemmas.Bool.{cases_eq, cases_lt}
+use Rattle.std.proofs.lemmas.Bool.{cases_eq}
 use Rattle.std.proofs.lemmas.List.{append-nil}
 use Rattle.chunk_format.specs.declared.chunk.Chunk.{Chunk}
-use Rattle.chunk_format.specs.Logs.{GoesOn, end_of, last_epoch, Linked, IsLog}
-use Rattle.chunk_format.proofs.LinkLaws.{linked_join, end_join, epoch_join}
+use Rattle.chunk_format.specs.Logs.{GoesOn, end_of, IsLog}
+use Rattle.chunk_format.proofs.LinkLaws.{linked_join}
 use Rattle.chunk_format.proofs.BeginLaws.{goes_same, goes_on, shorter_begins}
 use Rattle.epoch_coordinator.specs.declared.message.Message.{Message}
 use Rattle.epoch_coordinator.specs.declared.message.Message.TheVariants as messages
 use Rattle.epoch_coordinator.specs.declared.message.Job.{Job}
 use Rattle.epoch_coordinator.specs.declared.message.Job.TheVariants.{Write, Cut, Promise, Epoch}
-use Rattle.epoch_coordinator.specs.declared.message.Sent.{Sent}
-use Rattle.epoch_coordinator.specs.declared.coordinator.Phase.TheVariants.{Running}
-use Rattle.epoch_coordinator.specs.Members.{Leading, MemberRole, MemberState, Stopped, Follower, Leader, job_chunks, role_chunks, sequence_of}
+use Rattle.epoch_coordinator.specs.Members.{MemberRole, MemberState, Stopped, Follower, Leader, job_chunks, role_chunks, sequence_of}
 use Rattle.epoch_coordinator.specs.MemberSteps.{Took, taken, finished, commit_by, commit_end, cut_at}
 use Rattle.replication_laws.specs.Cluster.{Seat, Reign, reign, put, send, ClusterState, seat, member, IsMember, durable, marked, is_opened, RunsWith}
-use Rattle.replication_laws.specs.Events.{IsFree, committed_by, took, comes, to_coordinator, begins, ClusterStep, Elect, Deliver, Lose, Forget, Nudge, Done, Stop, Restart, Reopen, OfferStep, AnyStep, Happens, Takes}
-use Rattle.replication_laws.specs.Soundness.{Tree, LeadsEpoch, JobHolds, LineHolds, LeaderLine, LeaderHolds, RoleHolds, PhaseHolds, Sound, IsSound}
+use Rattle.replication_laws.specs.Events.{IsFree, took, comes, to_coordinator, begins, ClusterStep, Elect, Deliver, Lose, Forget, Nudge, Done, Stop, Restart, Reopen, OfferStep, AnyStep, Happens, Takes}
+use Rattle.replication_laws.specs.Soundness.{Tree, LeadsEpoch, JobHolds, LineHolds, LeaderLine, PhaseHolds, Sound, IsSound}
 use Rattle.replication_laws.specs.Confirms.{Stands, Awaits, IsGiven, IsBehind}
 use Rattle.replication_laws.proofs.Logs.{goes_behind, begins_as, front_end, front_epoch, log_push}
-use Rattle.replication_laws.proofs.Sounds.{After, seat_put, seat_else, count_put}
+use Rattle.replication_laws.proofs.Sounds.{seat_put, seat_else, count_put}
 use Rattle.replication_laws.proofs.Followers.{leads_unique, is_up}
-use Rattle.replication_laws.proofs.Walks.{CommitAt, commit_at}
+use Rattle.replication_laws.proofs.Walks.{commit_at}
 use Rattle.replication_laws.proofs.Moves.{MoveOf, Stays, Opens, Falls_back, Adopts, log_begins}
 use Rattle.replication_laws.proofs.Happenings.{event_goes, delivered_after}
-use Rattle.replication_laws.proofs.Offerings.{OfferGoes, opened_leader, offer_goes}
+use Rattle.replication_laws.proofs.Offerings.{opened_leader, offer_goes}
 use Rattle.replication_laws.proofs.Joined.{event_sound, step_grows, committed_begins}
 
 -- ---- an open leader's sequence
@@ -201,7 +199,7 @@ event_commits o now w w' s s' reigns (Reopen epoch down may eq) = record { eithe
 -- ---- claims
 
 -- one leader runs at a time
-running_is : (w : ClusterState) (e f k l : ℕ) → RunsWith w e k → RunsWith w f l → k ≡ l
+pub running_is : (w : ClusterState) (e f k l : ℕ) → RunsWith w e k → RunsWith w f l → k ≡ l
 running_is w e f k l a b = (let p = a.phase in let q = b.phase in cc (p, q))
 
 pub stands_on : (Says : List Chunk → Type 0) (end : ℕ) (a b : List Chunk) → GoesOn a b → Stands Says end a → Stands Says end b

@@ -1,37 +1,30 @@
 -- The clauses of soundness without a tree follow from it.
-use Rattle.std.proofs.Common.{◌≡◌, ℕ, ◌+◌, ◌<◌, ◌≤◌, ◌⊎◌, ◌≢◌, ◌↔◌, List, [], ◌∷◌, ◌++◌, length, refl, sym, ap, ◌∙◌, subst, append_assoc, inl, inr, arith, Option, Some, None, Bool, true, false}
+use Rattle.std.proofs.Common.{◌≡◌, ℕ, ◌<◌, ◌≤◌, ◌⊎◌, ◌↔◌, List, [], ◌∷◌, ◌++◌, refl, sym, ap, ◌∙◌, subst, append_assoc, inl, inr, arith, Option, Some, None}
 use Rattle.std.specs.List.{AllByRecursion}
-use Rattle.std.proofs.lemmas.Bool.{cases_lt}
 use Rattle.std.proofs.lemmas.List.{append-nil, append_cancel_left}
 use Rattle.chunk_format.specs.declared.chunk.Chunk.{Chunk}
 use Rattle.chunk_format.specs.Chunks.{end_of_chunk}
-use Rattle.chunk_format.specs.Logs.{GoesOn, end_of, last_epoch, IsLog, HasRun}
+use Rattle.chunk_format.specs.Logs.{GoesOn, last_epoch, IsLog, HasRun}
 use Rattle.chunk_format.proofs.LinkLaws.{end_push, epoch_push, chunk_goes_on, run_tail}
-use Rattle.chunk_format.proofs.BeginLaws.{goes_same, goes_on, goes_either, log_front, goes_push_cases}
+use Rattle.chunk_format.proofs.BeginLaws.{goes_on, goes_either, log_front, goes_push_cases}
 use Rattle.epoch_coordinator.specs.declared.tail.Tail.{Tail}
-use Rattle.epoch_coordinator.specs.declared.tail.Run.{Run}
 use Rattle.epoch_coordinator.specs.declared.message.Job.{Job}
 use Rattle.epoch_coordinator.specs.declared.message.Job.TheVariants.{Write, Cut, Promise, Epoch}
 use Rattle.epoch_coordinator.specs.declared.message.Message.{Message}
 use Rattle.epoch_coordinator.specs.declared.message.Message.TheVariants as messages
-use Rattle.epoch_coordinator.specs.declared.message.Sent.{Sent}
 use Rattle.epoch_coordinator.specs.declared.coordinator.Phase.TheVariants.{Electing}
 use Rattle.epoch_coordinator.specs.Tails.{tail_of}
-use Rattle.epoch_coordinator.specs.Members.{Leading, MemberRole, MemberState, Leader}
-use Rattle.epoch_coordinator.specs.MemberSteps.{epoch_of, has_epoch}
-use Rattle.epoch_coordinator.specs.Coordinators.{Told}
-use Rattle.replication_laws.specs.Majorities.{is_voter}
-use Rattle.replication_laws.specs.Cluster.{Reign, ClusterState, seat, member, durable, reign, InRuns, letter_in, HoldsBy, Holds}
-use Rattle.replication_laws.specs.Openings.{upto}
-use Rattle.replication_laws.specs.Soundness.{Tree, IsRooted, IsMark, Follows, HasReign, LeadsEpoch, Lacks, AllReach, AskHolds, AskElects, AppendHolds, IsCalm, ReplyHolds, LeadsWith, MessageHolds, JobHolds, acked, LeaderHolds, RoleHolds, OwnBehind, ElectingHolds, PhaseHolds, Sound, IsSound}
+use Rattle.epoch_coordinator.specs.Members.{MemberState}
+use Rattle.epoch_coordinator.specs.MemberSteps.{epoch_of}
+use Rattle.replication_laws.specs.Cluster.{Reign, ClusterState, seat, member, durable, reign, InRuns, HoldsBy, Holds}
+use Rattle.replication_laws.specs.Soundness.{Tree, IsRooted, IsMark, Follows, HasReign, LeadsEpoch, AskHolds, AskElects, AppendHolds, IsCalm, ReplyHolds, LeadsWith, MessageHolds, JobHolds, acked, LeaderHolds, RoleHolds, ElectingHolds, PhaseHolds, Sound, IsSound}
 use Rattle.replication_laws.specs.Clauses.{Occurs, In_holding, In_append, IsOnItsWay, Asked, On_its_way, Counted, Bounded, OccurrencesAgree, OpensBehind, EpochsOpen, LeadersLead, ElectionsAreStill, AsksAreTrue}
-use Rattle.replication_laws.proofs.Logs.{goes_behind, goes_one, begins_as, same_begins, none_begins, front_end, front_epoch, log_push, push_follows, same_ends, rooted_front}
+use Rattle.replication_laws.proofs.Logs.{goes_one, begins_as, same_begins, none_begins, front_end, front_epoch, log_push, push_follows, same_ends, rooted_front}
 use Rattle.replication_laws.proofs.Carry.{is_tree, held_log, held_below}
 use Rattle.replication_laws.proofs.Sounds.{SentHolds}
 use Rattle.replication_laws.proofs.Followers.{leads_unique}
 use Rattle.replication_laws.proofs.Leaders.{own_log}
 use Rattle.replication_laws.proofs.Happenings.{letter_holds}
-use Rattle.replication_laws.proofs.Starts.{upto_front}
 use Rattle.replication_laws.proofs.Reopened.{under, held_agree, upto_ends, Stands, stands_by}
 
 -- ---- where a chunk occurs

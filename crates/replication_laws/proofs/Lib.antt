@@ -23,3 +23,4 @@ pub mod Refusals
 pub mod Claims
 pub mod Causes
 pub mod Consequences
+pub mod Sendings

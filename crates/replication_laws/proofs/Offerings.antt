@@ -273,6 +273,9 @@ gets_goes g w o epoch k chunks s runs on =
       ];
     }
 
+pub gets_sequence : (g : Tree) (w : ClusterState) (o epoch k : ℕ) (chunks : List Chunk) → Sound g o w → RunsWith w epoch k → GoOnIn epoch (sequence_of (member w k)) chunks → sequence_of (member (gets k chunks w) k) ≡ sequence_of (member w k) ++ chunks
+gets_sequence g w o epoch k chunks s runs on = (gets_goes g w o epoch k chunks s runs on).sequence
+
 pub offer_goes : (g : Tree) (o now : ℕ) (w w' : ClusterState) → Sound g o w → OfferStep now w w' → OfferGoes g o w w'
 offer_goes g o now w w' s (Offer epoch k name items runs right all eq) =
     let low = leader_line g w o k s runs.leader_up runs.is_open in

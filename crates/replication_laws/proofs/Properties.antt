@@ -1,17 +1,12 @@
 -- Properties of logs stay, along each step.
-use Rattle.std.proofs.Common.{◌≡◌, ℕ, ◌⊎◌, List, [], ◌∷◌, ◌++◌, length, refl, sym, ap, ◌∙◌, subst, inl, inr, Option, Some, None, append_assoc, arith}
+use Rattle.std.proofs.Common.{ℕ, List, [], ◌∷◌, ◌++◌, length, sym, subst, inl, inr}
 use Rattle.std.proofs.lemmas.Bool.{cases_eq}
 use Rattle.chunk_format.specs.declared.chunk.Chunk.{Chunk}
 use Rattle.chunk_format.specs.Logs.{GoesOn}
-use Rattle.chunk_format.proofs.BeginLaws.{goes_same}
-use Rattle.epoch_coordinator.specs.declared.message.Message.{Message}
-use Rattle.epoch_coordinator.specs.declared.message.Message.TheVariants as messages
-use Rattle.epoch_coordinator.specs.declared.message.Sent.{Sent}
 use Rattle.epoch_coordinator.specs.Tails.{tail_of}
 use Rattle.epoch_coordinator.specs.Members.{MemberState, sequence_of}
 use Rattle.epoch_coordinator.specs.MemberSteps.{stamp_at}
-use Rattle.epoch_coordinator.specs.Offers.{offered_chunks, stored_chunks}
-use Rattle.replication_laws.specs.Cluster.{ClusterState, seat, member, letter_in, Holds}
+use Rattle.replication_laws.specs.Cluster.{ClusterState, seat, member, Holds}
 use Rattle.replication_laws.specs.Events.{ClusterStep, OfferStep, Offer, StoreOffset, AnyStep, Happens, Takes}
 use Rattle.replication_laws.specs.Soundness.{AppendHolds, MessageHolds, IsSound}
 use Rattle.replication_laws.specs.Properties.{IsLogProperty, IsKeptByOffers, KeepsAt, SoundWith, AllHave}
@@ -21,7 +16,7 @@ use Rattle.replication_laws.proofs.Sounds.{SentHolds}
 use Rattle.replication_laws.proofs.Followers.{append_same}
 use Rattle.replication_laws.proofs.Moves.{MoveOf, Stays, Opens, Falls_back, Adopts, held_begins}
 use Rattle.replication_laws.proofs.Happenings.{letter_holds, event_goes}
-use Rattle.replication_laws.proofs.Offerings.{OfferGoes, offer_goes, offer_chunks}
+use Rattle.replication_laws.proofs.Offerings.{OfferGoes, offer_chunks}
 
 moved_has : (Q : List Chunk → Type 0) (canon : ℕ → List Chunk) (m n : MemberState) → IsLogProperty Q → ((e : ℕ) → Q (canon e)) → Q (sequence_of m) → MoveOf canon m n → Q (sequence_of n)
 moved_has Q canon m n p all h (Stays e) = subst Q (sym e) h

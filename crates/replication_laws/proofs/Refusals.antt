@@ -1,18 +1,18 @@
 -- Runs on literals, and what three other rules would lose.
-use Rattle.std.proofs.Common.{◌≡◌, ℕ, ◌+◌, ◌*◌, ◌<◌, ◌≤◌, ◌⊎◌, List, [], ◌∷◌, ◌++◌, length, length-append, refl, sym, ap, ◌∙◌, subst, inl, inr, arith, Option, Some, None, Bool, true, false, zero, suc, not}
+use Rattle.std.proofs.Common.{◌≡◌, ℕ, ◌<◌, ◌≤◌, ◌⊎◌, List, [], ◌∷◌, length, length-append, refl, sym, ap, subst, inl, inr, arith, Option, Some, None, Bool, true, false, zero, suc}
 use Rattle.std.specs.Prelude.{◌&&◌, nat_lt, is_none}
 use Rattle.chunk_format.specs.declared.chunk.Chunk.{Chunk}
-use Rattle.chunk_format.specs.Logs.{GoesOn, IsLog, end_of, last_epoch}
+use Rattle.chunk_format.specs.Logs.{GoesOn, end_of, last_epoch}
 use Rattle.chunk_format.proofs.BeginLaws.{goes_same}
 use Rattle.frame_wire.specs.Fields as fields
 use Rattle.epoch_coordinator.specs.declared.message.Sent.{Sent}
 use Rattle.epoch_coordinator.specs.declared.message.Message.TheVariants as messages
 use Rattle.epoch_coordinator.specs.MemberSteps.{mail}
 use Rattle.epoch_coordinator.specs.Scripts.{Act, Elects, Does, Delivers, Restarts}
-use Rattle.replication_laws.specs.Majorities.{votes, IsMajority, is_voter}
-use Rattle.replication_laws.specs.Cluster.{ClusterState, seat, member, IsMember, last_number, letter_in}
+use Rattle.replication_laws.specs.Majorities.{IsMajority, is_voter}
+use Rattle.replication_laws.specs.Cluster.{ClusterState, seat, member, last_number, letter_in}
 use Rattle.replication_laws.specs.Events.{IsUp, IsFree, Elect, Deliver, Done}
-use Rattle.replication_laws.specs.Openings.{Start, start_at, opened_cluster, Agrees, Begins, IsWhole, CanStart}
+use Rattle.replication_laws.specs.Openings.{start_at, Begins, IsWhole}
 use Rattle.replication_laws.specs.Soundness.{Kept, IsSound}
 use Rattle.replication_laws.specs.Literals.{acts, acted, is_up, has_no_job, is_due, is_due_by, all_due, delivered, first_chunk, first_start, three, wrote_alone, commits_alone, sent_older, older_tail, commits_older, caught_up, told_runs, cut_by}
 use Rattle.replication_laws.proofs.Logs.{log_push}

@@ -1,20 +1,20 @@
 -- What a sound stream leaves on its disks may be opened again.
 use Rattle.std.proofs.Common.{◌≡◌, ℕ, ◌+◌, ◌*◌, ◌<◌, ◌≤◌, ◌⊎◌, List, [], ◌∷◌, ◌++◌, length, refl, sym, ap, ◌∙◌, subst, append_assoc, inl, inr, arith, Option, Some, None, Bool, true, false, zero, suc}
-use Rattle.std.specs.Prelude.{◌||◌, ◌==◌, slice_index_or}
+use Rattle.std.specs.Prelude.{◌==◌}
 use Rattle.std.proofs.lemmas.Bool.{cases_lt}
 use Rattle.std.proofs.lemmas.List.{append_cancel_left, get_or_past}
 use Rattle.chunk_format.specs.declared.chunk.Chunk.{Chunk}
 use Rattle.chunk_format.specs.Chunks.{end_of_chunk}
-use Rattle.chunk_format.specs.Logs.{GoesOn, end_of, epoch_from, last_epoch, Linked, IsLog}
+use Rattle.chunk_format.specs.Logs.{GoesOn, end_of, last_epoch, Linked, IsLog}
 use Rattle.chunk_format.proofs.LinkLaws.{epoch_push, linked_front, linked_behind, epoch_join, epoch_past}
-use Rattle.chunk_format.proofs.BeginLaws.{goes_same, goes_on, goes_either, goes_push_cases, log_front}
+use Rattle.chunk_format.proofs.BeginLaws.{goes_on, goes_either, goes_push_cases, log_front}
 use Rattle.epoch_coordinator.specs.declared.message.Job.{Job}
 use Rattle.epoch_coordinator.specs.declared.message.Job.TheVariants.{Write, Cut, Promise, Epoch}
 use Rattle.epoch_coordinator.specs.Members.{MemberState}
 use Rattle.epoch_coordinator.specs.MemberSteps.{has_epoch}
 use Rattle.replication_laws.specs.Majorities.{votes, is_voter}
-use Rattle.replication_laws.specs.Cluster.{Seat, ClusterState, nobody, seat, member, durable, last_number, HoldsBy, Holds, MayPromise}
-use Rattle.replication_laws.specs.Openings.{upto, Start, no_start, start_at, opened_cluster, IsWhole, Agrees, Diverges, IsRecovered}
+use Rattle.replication_laws.specs.Cluster.{Seat, ClusterState, nobody, seat, member, durable, last_number, HoldsBy, Holds}
+use Rattle.replication_laws.specs.Openings.{upto, Start, start_at, opened_cluster, IsWhole, Agrees, Diverges, IsRecovered}
 use Rattle.replication_laws.specs.Soundness.{Tree, IsRooted, LeadsEpoch, LeadsWith, JobHolds, Kept, Sound, IsSound}
 use Rattle.replication_laws.specs.Properties.{IsLogProperty, SoundWith}
 use Rattle.replication_laws.proofs.Logs.{goes_none, goes_empty, goes_one, same_begins, begins_as, none_begins, front_epoch, rooted_front}

@@ -1,22 +1,19 @@
 -- Offers and stored offsets keep that snapshots are truthful and that ids rise.
-use Rattle.std.proofs.Common.{◌≡◌, ℕ, ◌+◌, ◌^◌, ◌<◌, ◌≤◌, ◌⊎◌, List, [], ◌∷◌, ◌++◌, length, map, take, drop, refl, sym, ap, ◌∙◌, subst, append_assoc, inl, inr, arith, Option, Some, None, Bool, true, false, cond, zero, suc}
-use Rattle.std.specs.Prelude.{ℤ, ◌==◌, nat_lt, if◌then◌else◌}
-use Rattle.std.specs.List.{AllByRecursion, All, flat_map, reduce}
-use Rattle.std.specs.List.Sorted.{IsStrictlyIncreasing}
+use Rattle.std.proofs.Common.{◌≡◌, ℕ, ◌^◌, ◌<◌, ◌≤◌, ◌⊎◌, List, [], ◌∷◌, ◌++◌, length, map, take, drop, refl, sym, ap, ◌∙◌, subst, append_assoc, inl, inr, arith, Option, Some, None, Bool, true, false, cond, zero, suc}
+use Rattle.std.specs.Prelude.{ℤ, ◌==◌, nat_lt}
+use Rattle.std.specs.List.{AllByRecursion, flat_map}
 use Rattle.std.proofs.lemmas.Bool.{cases_lt}
 use Rattle.std.proofs.lemmas.List.{append-nil, length-map, take-append-drop}
 use Rattle.std.proofs.lemmas.List.Elements.{recursion_from_All, All-from_recursion}
 use Rattle.chunk_format.specs.declared.chunk.Chunk.{Chunk}
-use Rattle.chunk_format.specs.declared.chunk.ChunkKind.TheVariants.{User, Delta, Snapshot}
-use Rattle.chunk_format.specs.Chunks.{IsChunk}
-use Rattle.chunk_format.specs.Tags.{Tag, tag_bytes, IsName, IsTag, IsTagOf, SpellsTags}
-use Rattle.chunk_format.specs.Logs.{GoesOn, end_of, IsLog, opening_chunk, Truthful}
+use Rattle.chunk_format.specs.declared.chunk.ChunkKind.TheVariants.{Snapshot}
+use Rattle.chunk_format.specs.Tags.{Tag, tag_bytes, IsName, IsTagOf, SpellsTags}
+use Rattle.chunk_format.specs.Logs.{GoesOn, end_of, opening_chunk, Truthful}
 use Rattle.chunk_format.specs.ByName.{same_name, ids_of, Greatest, AtMost, RisesIn}
-use Rattle.chunk_format.proofs.BeginLaws.{goes_same, goes_on}
-use Rattle.chunk_format.proofs.NameLaws.{same_decides, ids_join, Rises, rises_from, increases_from, rises_left, rises_in_front, rises_in_join}
+use Rattle.chunk_format.proofs.NameLaws.{same_decides, ids_join, Rises, increases_from, rises_left, rises_in_front, rises_in_join}
 use Rattle.chunk_format.proofs.TagRows.{Untagged, untagged_user, untagged_delta, untagged_snapshot, user_ids, user_other_ids}
 use Rattle.chunk_format.proofs.TruthLaws.{truthful_none, truthful_begins, truthful_push, truthful_opens}
-use Rattle.epoch_coordinator.specs.Offers.{Item, is_new, rising_from, accepted, trailer_by, user_chunk, offset_chunk, since_snapshot, snapshot_every, with_snapshot, most_entries, laid, chunk_count, offered_chunks, stored_chunks}
+use Rattle.epoch_coordinator.specs.Offers.{Item, is_new, rising_from, accepted, user_chunk, offset_chunk, since_snapshot, snapshot_every, with_snapshot, most_entries, laid, chunk_count, offered_chunks, stored_chunks}
 use Rattle.replication_laws.specs.Events.{IsOffer}
 use Rattle.replication_laws.specs.Properties.{IsLogProperty, IsKeptByOffers}
 

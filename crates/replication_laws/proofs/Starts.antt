@@ -1,25 +1,24 @@
 -- The first state over logs that pass the tests is sound.
-use Rattle.std.proofs.Common.{◌≡◌, ℕ, ◌+◌, ◌*◌, ◌<◌, ◌≤◌, ◌⊎◌, List, [], ◌∷◌, ◌++◌, length, length-append, refl, sym, ap, ◌∙◌, subst, append_assoc, inl, inr, arith, Option, Some, None, Bool, true, false, cond, zero, suc, replicate}
+use Rattle.std.proofs.Common.{◌≡◌, ℕ, ◌+◌, ◌<◌, ◌≤◌, ◌⊎◌, List, [], ◌∷◌, ◌++◌, length, length-append, refl, sym, ap, ◌∙◌, subst, append_assoc, inl, inr, arith, Some, None, Bool, true, false, cond, zero, suc, replicate}
 use Rattle.std.specs.Prelude.{◌&&◌, ◌==◌, nat_lt, nat_le, if◌then◌else◌, slice_index_or}
 use Rattle.std.proofs.lemmas.Bool.{cases_eq, cases_lt}
 use Rattle.std.proofs.lemmas.List.{append-nil, append_cancel_left, get_or_past, length-replicate}
 use Rattle.chunk_format.specs.declared.chunk.Chunk.{Chunk}
 use Rattle.chunk_format.specs.Chunks.{end_of_chunk}
-use Rattle.chunk_format.specs.Logs.{GoesOn, end_of, epoch_from, last_epoch, Linked, IsLog}
-use Rattle.chunk_format.proofs.LinkLaws.{epoch_join, epoch_push, linked_front, epoch_past}
+use Rattle.chunk_format.specs.Logs.{GoesOn, epoch_from, last_epoch, Linked, IsLog}
+use Rattle.chunk_format.proofs.LinkLaws.{epoch_join, linked_front, epoch_past}
 use Rattle.chunk_format.proofs.BeginLaws.{goes_same, goes_on, goes_either, log_front}
-use Rattle.epoch_coordinator.specs.Members.{MemberState, Stopped, sequence_of}
+use Rattle.epoch_coordinator.specs.Members.{sequence_of}
 use Rattle.epoch_coordinator.specs.MemberSteps.{has_epoch, restarted, commit_end}
-use Rattle.epoch_coordinator.specs.Coordinators.{opened_with, untold}
-use Rattle.replication_laws.specs.Majorities.{votes, IsMajority}
+use Rattle.replication_laws.specs.Majorities.{votes}
 use Rattle.replication_laws.specs.Cluster.{Seat, ClusterState, nobody, seat, member, IsMember, last_number}
-use Rattle.replication_laws.specs.Openings.{upto, Start, no_start, start_at, start_seats, opened_cluster, IsWhole, Diverges, Agrees, Begins, Is_begun, Parts, CanStart}
-use Rattle.replication_laws.specs.Soundness.{Tree, IsRooted, HasReign, MemberHolds, Kept, Sound, IsSound, IsCommitted}
+use Rattle.replication_laws.specs.Openings.{upto, Start, no_start, start_at, start_seats, opened_cluster, IsWhole, Agrees, Begins, Is_begun, Parts, CanStart}
+use Rattle.replication_laws.specs.Soundness.{Tree, IsRooted, HasReign, MemberHolds, Sound, IsSound, IsCommitted}
 use Rattle.replication_laws.specs.Properties.{IsLogProperty, SoundWith}
-use Rattle.replication_laws.proofs.Logs.{goes_none, goes_empty, same_begins, begins_as, none_begins, front_end, front_epoch}
+use Rattle.replication_laws.proofs.Logs.{goes_none, goes_empty, same_begins, begins_as, none_begins, front_epoch}
 use Rattle.replication_laws.proofs.Followers.{is_up}
-use Rattle.replication_laws.proofs.Takings.{eq_is, eq_made, both_are}
-use Rattle.replication_laws.proofs.Walks.{or_cases, or_left, or_right}
+use Rattle.replication_laws.proofs.Takings.{eq_is, eq_made}
+use Rattle.replication_laws.proofs.Walks.{or_left, or_right}
 use Rattle.replication_laws.proofs.Coordinating.{untold_count}
 
 -- ---- the beginning of a log whose chunks have an epoch of at most e

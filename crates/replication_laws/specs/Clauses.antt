@@ -1,5 +1,5 @@
 -- What soundness says of holdings, messages and reigns, without a tree of logs.
-use Rattle.std.specs.Prelude.{◌≡◌, ℕ, ◌<◌, ◌≤◌, ◌≢◌, ◌⊎◌, ◌↔◌, true, List, [], ◌∷◌, ◌++◌, length, Option, Some, None}
+use Rattle.std.specs.Prelude.{◌≡◌, ℕ, ◌<◌, ◌≤◌, ◌≢◌, ◌⊎◌, ◌↔◌, true, List, [], ◌∷◌, ◌++◌, Some, None}
 use Rattle.chunk_format.specs.declared.chunk.Chunk.{Chunk}
 use Rattle.chunk_format.specs.Chunks.{end_of_chunk}
 use Rattle.chunk_format.specs.Logs.{GoesOn, last_epoch, IsLog, HasRun}
@@ -11,7 +11,7 @@ use Rattle.epoch_coordinator.specs.declared.message.Message.TheVariants as messa
 use Rattle.epoch_coordinator.specs.declared.message.Sent.{Sent}
 use Rattle.epoch_coordinator.specs.declared.coordinator.Phase.TheVariants.{Electing}
 use Rattle.epoch_coordinator.specs.Tails.{tail_of}
-use Rattle.epoch_coordinator.specs.Members.{Leading, MemberState, Leader}
+use Rattle.epoch_coordinator.specs.Members.{Leading, Leader}
 use Rattle.epoch_coordinator.specs.MemberSteps.{epoch_of, has_epoch}
 use Rattle.epoch_coordinator.specs.Coordinators.{Told}
 use Rattle.replication_laws.specs.Majorities.{is_voter}

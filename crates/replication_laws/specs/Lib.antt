@@ -7,3 +7,4 @@ pub mod Openings
 pub mod Literals
 pub mod Confirms
 pub mod Clauses
+pub mod Histories

@@ -1,5 +1,5 @@
 -- Runs of three members on literals, and three rules that would lose what was committed.
-use Rattle.std.specs.Prelude.{◌≡◌, ℕ, zero, suc, ◌+◌, ◌-◌, pos, Bool, true, false, ◌&&◌, ◌==◌, nat_lt, if◌then◌else◌, is_none, List, [], ◌∷◌, ◌++◌, length, Option, Some, None}
+use Rattle.std.specs.Prelude.{ℕ, zero, suc, pos, Bool, true, false, ◌&&◌, ◌==◌, nat_lt, if◌then◌else◌, is_none, List, [], ◌∷◌, ◌++◌, length, Option, Some, None}
 use Rattle.chunk_format.specs.declared.chunk.Chunk.{Chunk}
 use Rattle.chunk_format.specs.Chunks.{end_of_chunk}
 use Rattle.chunk_format.specs.Logs.{opening_chunk, end_of}
@@ -11,7 +11,7 @@ use Rattle.epoch_coordinator.specs.Members.{Leading, MemberRole, MemberState, St
 use Rattle.epoch_coordinator.specs.MemberSteps.{raise, majority_has, kept_end, cut_at}
 use Rattle.epoch_coordinator.specs.Coordinators.{elect}
 use Rattle.epoch_coordinator.specs.Scripts.{Act, Elects, Does, Delivers, Restarts, common, older_epoch, late_member}
-use Rattle.replication_laws.specs.Cluster.{Seat, ClusterState, seat, member, put, last_number, letter_in, marked}
+use Rattle.replication_laws.specs.Cluster.{ClusterState, seat, member, put, last_number, letter_in, marked}
 use Rattle.replication_laws.specs.Events.{comes, performed}
 use Rattle.replication_laws.specs.Openings.{Start, opened_cluster}
 

@@ -11,7 +11,7 @@ use Rattle.epoch_coordinator.specs.Members.{sequence_of}
 use Rattle.epoch_coordinator.specs.MemberSteps.{stamp_at}
 use Rattle.epoch_coordinator.specs.Offers.{Item, offered_chunks, stored_chunks}
 use Rattle.replication_laws.specs.Cluster.{ClusterState, member, letter_in, Holds}
-use Rattle.replication_laws.specs.Events.{IsOffer, OfferStep, Offer, StoreOffset, AnyStep, Happens, Takes}
+use Rattle.replication_laws.specs.Events.{IsOffer, OfferStep, Offer, StoreOffset}
 use Rattle.replication_laws.specs.Soundness.{Tree, Sound, IsCommitted}
 
 -- No chunks have it, each beginning of a log with it has it, and so has the log with an opening chunk behind it.

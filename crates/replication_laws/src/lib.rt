@@ -5,6 +5,7 @@
 mod clause_laws;
 mod confirm_laws;
 mod event_laws;
+mod history_laws;
 mod opening_laws;
 mod property_laws;
 mod refused_runs;
@@ -19,6 +20,7 @@ pub use event_laws::{
     the_committed_list_begins_the_open_leaders_log, the_committed_list_only_grows,
     the_committed_list_reaches_what_is_due,
 };
+pub use history_laws::what_stands_was_sent;
 pub use opening_laws::{electors_are_flags, openings_are_sound, what_is_left_is_opened_again};
 pub use property_laws::{
     IdsRise, LogProperty, SnapshotsAreTruthful, ids_rise, openings_have_the_property,
