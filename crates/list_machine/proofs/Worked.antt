@@ -1,8 +1,9 @@
 -- The worked run, step by step.
-use Rattle.std.proofs.Common.{◌≡◌, ℕ, ◌==◌, ◌<◌, ◌≤◌, Bool, true, false, cond, List, [], ◌∷◌, ◌++◌, length, pos, rules, Some, None, refl, sym, ap, subst, ◌∙◌, inl, inr, arith, length-append}
+use Rattle.std.proofs.Common.{◌≡◌, ℕ, ◌==◌, ◌<◌, ◌≤◌, Bool, true, false, cond, List, [], ◌∷◌, ◌++◌, length, pos, rules, codes, Option, Some, None, refl, sym, ap, subst, ◌∙◌, inl, inr, arith, length-append}
 use Rattle.std.specs.List.{AllByRecursion}
 use Rattle.std.specs.Int.{w64}
 use Rattle.std.specs.Int.RustNames.{FitsSigned}
+use Rattle.std.proofs.lemmas.Bool.{eqb-true}
 use Rattle.std.proofs.lemmas.List.{append-nil}
 use Rattle.std.proofs.lemmas.List.Elements.{All-nil, All-from_recursion}
 use Rattle.frame_wire.specs.Fields.{u8_bytes, u16_bytes, u32_bytes, u64_bytes}
@@ -16,21 +17,21 @@ use Rattle.command_fields.specs.Tables.{IsCommand, body_of}
 use Rattle.command_fields.specs.declared.response.ResponseCode.TheVariants as says
 use Rattle.command_all.specs.declared.command.Command.{Command}
 use Rattle.command_all.specs.Commands.{command_table, frame_of}
-use Rattle.command_all.specs.Reading.{Partial, Reading}
+use Rattle.command_all.specs.Reading.{Partial, TooLarge, Reading}
 use Rattle.script_text.specs.declared.script.ScriptLine.TheVariants as script
 use Rattle.script_text.specs.declared.output.OutputLine.TheVariants as output
-use Rattle.script_text.specs.declared.output.Ending.TheVariants.{PeerEnded}
-use Rattle.list_machine.specs.Streams.{Frame, Confirmed, Declaration, active, Subscription, Stream, no_stream}
+use Rattle.script_text.specs.declared.output.Ending.TheVariants.{PeerEnded, ClosedByUs}
+use Rattle.list_machine.specs.Streams.{Frame, Confirmed, Declaration, active, Subscription, live, Stream, no_stream}
 use Rattle.list_machine.specs.Publishing.{Declared}
 use Rattle.list_machine.specs.Subscribing.{with_delivery}
 use Rattle.list_machine.specs.Commits.{CommitStep}
-use Rattle.list_machine.specs.Moves.{Move, commits, declares, publishes, confirms, subscribes, delivers, leaves, forgets, MoveStep, StreamRun, without, forgotten}
-use Rattle.list_machine.specs.Machines.{leaving, gone, Connection, fresh, no_connection, Doing, idle, making, reopening, Machine, empty_machine, put, Moves, nowhere, only, everywhere, begun, IsUndeclared}
+use Rattle.list_machine.specs.Moves.{Move, begins, commits, declares, publishes, confirms, subscribes, delivers, leaves, forgets, MoveStep, StreamRun, without, forgotten}
+use Rattle.list_machine.specs.Machines.{Change, adds, IsMissing, leaving, gone, Connection, fresh, no_connection, Doing, idle, making, reopening, Machine, empty_machine, put, Moves, nowhere, only, everywhere, begun, IsUndeclared}
 use Rattle.list_machine.specs.Lines.{frame_max, IsAnswered, IsQuiet}
 use Rattle.list_machine.specs.Answers.{declare, publish, subscribe, acts, Taken, Served}
 use Rattle.list_machine.specs.Sends.{Confirms, Delivers, Owed, Unasked}
-use Rattle.list_machine.specs.Steps.{Event, read, handled, made, committed, sent, ended, told, Does, MachineStep, MachineRun}
-use Rattle.list_machine.specs.Examples.{s_name, p_name, item, chunk_of, opening, machine_of, stream_of, connection_of, prepared, seven, frame as one_frame, reader, declares_seven, is_declared, publishes_one, confirms_one, subscribes_three, is_subscribed, delivery, gives, a_stream_made, a_declaration, a_confirm, a_delivery, a_stop, the_worked_run}
+use Rattle.list_machine.specs.Steps.{Event, read, handled, misread, made, refused, found, committed, sent, ended, told, Does, MachineStep, MachineRun}
+use Rattle.list_machine.specs.Examples.{s_name, p_name, item, chunk_of, opening, machine_of, stream_of, connection_of, prepared, seven, frame as one_frame, reader, declares_seven, is_declared, publishes_one, confirms_one, subscribes_three, is_subscribed, delivery, gives, a_stream_made, a_declaration, a_confirm, a_delivery, a_stop, the_worked_run, large_size, closes_large, a_frame_too_large, a_change_in_doubt}
 use Rattle.list_machine.proofs.Lists.{all_back}
 
 -- ---- steps between machines with one stream and one connection
@@ -260,7 +261,7 @@ made_step = record {
   moment = refl;
 }
   where
-    dead : no_stream.life ≡ Rattle.list_machine.specs.Streams.live → ⊥
+    dead : no_stream.life ≡ live → ⊥
     dead e = cc
 
     begins_at : (b : Bool) → StreamRun no_stream (cond b (Rattle.list_machine.specs.Moves.begins (Some s_name) None ∷ []) []) (cond b s0 no_stream)
@@ -486,3 +487,170 @@ worked =
     (run_on a_declaration (a_confirm ++ (a_delivery ++ a_stop)) (machine_of s1 no_connection idle) (machine_of s3 fresh idle) (machine_of s11 over idle) declared_run
     (run_on a_confirm (a_delivery ++ a_stop) (machine_of s3 fresh idle) (machine_of s6 fresh idle) (machine_of s11 over idle) confirmed_run
     (run_on a_delivery a_stop (machine_of s6 fresh idle) (machine_of s8 fresh idle) (machine_of s11 over idle) delivered_run stopped_run)))
+
+-- ---- a frame too large
+
+connect_step : MachineStep (machine_of s1 no_connection idle) (read (script.Connect 1)) (machine_of s1 fresh idle)
+connect_step =
+    linked_step s1 s1 no_connection fresh idle idle (read (script.Connect 1)) nowhere (record { quiet = quiet_of s1 no_connection idle tt (λ name e. cc); reads = (refl, refl, refl) }) (λ n. refl)
+
+abbrev stuck : Connection
+stuck = record fresh { rest = large_size; cut = TooLarge 1048577 }
+
+abbrev told_large : Connection
+told_large = record stuck { phase = leaving (ClosedByUs 0x0e); owed = closes_large ∷ [] }
+
+abbrev closed_large : Connection
+closed_large = record told_large { owed = [] }
+
+large_reading : Reading frame_max large_size [] large_size (TooLarge 1048577)
+unfolding u32_bytes
+large_reading = record { bodies = []; framed = record { whole = refl; each = All-nil (IsBody frame_max); large = record { whole = omega arith; is_size = refl; above = omega arith } }; spelled = tt }
+
+large_step : MachineStep (machine_of s1 fresh idle) (read (script.Give 1 large_size)) (machine_of s1 stuck idle)
+large_step =
+    linked_step s1 s1 fresh stuck idle idle (read (script.Give 1 large_size)) nowhere
+    (record { quiet = fresh_quiet s1; reads = (stuck, ([], large_size, TooLarge 1048577, large_reading, refl), refl, refl) }) (λ n. refl)
+
+misread_step : MachineStep (machine_of s1 stuck idle) (misread 1 closes_large) (machine_of s1 told_large idle)
+misread_step =
+    linked_step s1 s1 stuck told_large idle idle (misread 1 closes_large) nowhere
+    (record { is_open = refl; is_last = refl; code = says.FrameTooLarge; misread = refl; answer_is = (Some (codes "frame too large"), refl); moves_are = refl; after_is = refl }) (λ n. refl)
+
+close_step : MachineStep (machine_of s1 told_large idle) (sent 1 closes_large) (machine_of s1 closed_large idle)
+close_step = linked_step s1 s1 told_large closed_large idle idle (sent 1 closes_large) nowhere (Owed [] refl refl refl) (λ n. refl)
+
+closed_step : MachineStep (machine_of s1 closed_large idle) (ended 1 (ClosedByUs 0x0e)) (machine_of s1 (record closed_large { phase = gone }) idle)
+closed_step =
+    linked_step s1 s1 closed_large (record closed_large { phase = gone }) idle idle (ended 1 (ClosedByUs 0x0e)) (everywhere (leaves 1 ∷ [])) (record { may = inl refl; all_written = refl; moves_are = refl; after_is = refl })
+    (all_run s1 s1 (leaves 1 ∷ []) (s1, refl, refl) (no_stream, refl, refl))
+
+pub large : MachineRun empty_machine (a_stream_made ++ a_frame_too_large) (machine_of s1 (record closed_large { phase = gone }) idle)
+large =
+    run_on a_stream_made a_frame_too_large empty_machine (machine_of s1 no_connection idle) (machine_of s1 (record closed_large { phase = gone }) idle) made_run
+    (_, connect_step, (_, large_step, (_, misread_step, (_, close_step, (_, closed_step, refl)))))
+
+-- ---- a change in doubt
+
+abbrev t_name : List ℕ
+t_name = codes "t"
+
+abbrev u_name : List ℕ
+u_name = codes "u"
+
+abbrev in_doubt : List Change
+in_doubt = adds None (Some t_name ∷ []) ∷ []
+
+-- the machine with these changes in doubt
+abbrev doubting : Doing → List Change → Machine
+doubting doing changes = record (machine_of s1 no_connection doing) { unsure = changes }
+
+quiet_doubting : (changes : List Change) → IsQuiet (doubting idle changes)
+quiet_doubting changes = record { connections = λ n. go (n == 1); made = λ name e. cc }
+  where
+    go : (b : Bool) → IsAnswered (cond b no_connection no_connection).phase (cond b no_connection no_connection)
+    go true = tt
+    go false = tt
+
+doubting_step : (d e : Doing) (c c' : List Change) (event : Event) → Does (doubting d c) event nowhere (record (doubting d c) { doing = e; unsure = c' }) → MachineStep (doubting d c) event (doubting e c')
+doubting_step d e c c' event does = record {
+  moves = nowhere;
+  after = record (doubting d c) { doing = e; unsure = c' };
+  does = does;
+  streams = λ n. refl;
+  connections = λ n. refl;
+  last = refl;
+  unsure = refl;
+  doing = refl;
+  moment = refl;
+}
+
+naming_step : (name : List ℕ) (c : List Change) → MachineStep (doubting idle c) (read (script.Create name)) (doubting (making name) c)
+naming_step name c = doubting_step idle (making name) c c (read (script.Create name)) (record { quiet = quiet_doubting c; reads = (refl, refl) })
+
+taken_step : MachineStep (doubting (making s_name) []) (refused says.StreamAlreadyExists) (doubting idle [])
+taken_step = doubting_step (making s_name) idle [] [] (refused says.StreamAlreadyExists) (record { name = s_name; is_making = refl; is_fault = λ e. cc; moves_are = refl; after_is = refl })
+
+doubt_step : MachineStep (doubting (making t_name) []) (refused says.InternalError) (doubting idle in_doubt)
+doubt_step = doubting_step (making t_name) idle [] in_doubt (refused says.InternalError) (record { name = t_name; is_making = refl; is_fault = λ e. cc; moves_are = refl; after_is = refl })
+
+abbrev named : List ℕ → Stream
+named name = record s0 { name = name }
+
+abbrev with_t : Machine
+with_t = record (doubting (making u_name) []) { streams = put 2 (named t_name) (doubting (making u_name) []).streams; last = 2 }
+
+abbrev with_u : Machine
+with_u = record with_t { streams = put 3 (named u_name) with_t.streams; last = 3; doing = idle }
+
+dead : no_stream.life ≡ live → ⊥
+dead e = cc
+
+-- a name of another letter is no name of the stream
+is_other_name : (a b : ℕ) → (a ≡ b → ⊥) → ◌≡◌ {A = Option (List ℕ)} (Some (a ∷ [])) (Some (b ∷ [])) → ⊥
+is_other_name a b other e = let same : a ≡ b = cc in other same
+
+begins_named : (name : List ℕ) → 1 ≤ length name → length name ≤ 255 → StreamRun no_stream (begins (Some name) None ∷ []) (named name)
+begins_named name some few = (named name, record { is_unmade = refl; name = name; text_is = refl; is_name = (some, few); is = refl }, refl)
+
+t_is_new : IsMissing (doubting (making u_name) in_doubt) (Some t_name)
+t_is_new number is = go (number == 1) is
+  where
+    go : (b : Bool) → ((cond b s1 no_stream).life ≡ live) × (Some t_name ≡ Some (cond b s1 no_stream).name) → ⊥
+    go true is = is_other_name 116 115 (λ e. absurd (omega (arith, e))) is.1
+    go false is = dead is.0
+
+found_step : MachineStep (doubting (making u_name) in_doubt) (found (adds None (Some t_name ∷ []))) with_t
+found_step = record {
+  moves = begun 1 None (Some t_name ∷ []);
+  after = record (doubting (making u_name) in_doubt) { last = 2; unsure = [] };
+  does = record {
+    is_changing = inr (inl (u_name, refl));
+    is_possible = (t_is_new, tt, tt);
+    before = [];
+    behind = [];
+    was_unsure = refl;
+    moves_are = refl;
+    after_is = refl;
+  };
+  streams = λ n. go n (n == 2) refl;
+  connections = λ n. refl;
+  last = refl;
+  unsure = refl;
+  doing = refl;
+  moment = refl;
+}
+  where
+    go : (n : ℕ) (b : Bool) → (n == 2) ≡ b → StreamRun (cond (n == 1) s1 no_stream) (cond b (begins (Some t_name) None ∷ []) []) (cond b (named t_name) (cond (n == 1) s1 no_stream))
+    go n true e = subst (λ (m : ℕ). StreamRun (cond (m == 1) s1 no_stream) (begins (Some t_name) None ∷ []) (named t_name)) (sym (eqb-true n 2 e)) (begins_named t_name (omega arith) (omega arith))
+    go n false e = refl
+
+u_is_new : IsMissing with_t (Some u_name)
+u_is_new number is = go (number == 2) (number == 1) is
+  where
+    go : (a b : Bool) → ((cond a (named t_name) (cond b s1 no_stream)).life ≡ live) × (Some u_name ≡ Some (cond a (named t_name) (cond b s1 no_stream)).name) → ⊥
+    go true b is = is_other_name 117 116 (λ e. absurd (omega (arith, e))) is.1
+    go false true is = is_other_name 117 115 (λ e. absurd (omega (arith, e))) is.1
+    go false false is = dead is.0
+
+made_again : MachineStep with_t made with_u
+made_again = record {
+  moves = begun 2 None (Some u_name ∷ []);
+  after = record with_t { last = 3; unsure = []; doing = idle };
+  does = record { name = u_name; is_making = refl; is_new = (u_is_new, tt, tt); moves_are = refl; after_is = refl };
+  streams = λ n. go n (n == 3) refl;
+  connections = λ n. refl;
+  last = refl;
+  unsure = refl;
+  doing = refl;
+  moment = refl;
+}
+  where
+    go : (n : ℕ) (b : Bool) → (n == 3) ≡ b → StreamRun (with_t.streams n) (cond b (begins (Some u_name) None ∷ []) []) (cond b (named u_name) (with_t.streams n))
+    go n true e = subst (λ (m : ℕ). StreamRun (with_t.streams m) (begins (Some u_name) None ∷ []) (named u_name)) (sym (eqb-true n 3 e)) (begins_named u_name (omega arith) (omega arith))
+    go n false e = refl
+
+pub doubted : MachineRun empty_machine (a_stream_made ++ a_change_in_doubt) with_u
+doubted =
+    run_on a_stream_made a_change_in_doubt empty_machine (machine_of s1 no_connection idle) with_u made_run
+    (_, naming_step s_name [], (_, taken_step, (_, naming_step t_name [], (_, doubt_step, (_, naming_step u_name in_doubt, (_, found_step, (_, made_again, refl)))))))

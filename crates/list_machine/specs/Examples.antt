@@ -1,5 +1,6 @@
--- A worked run, with each kind of event that changes a stream, and the machines along it.
+-- Worked runs, with each kind of event, and the machines along them.
 use Rattle.std.specs.Prelude.{ℕ, ◌==◌, if◌then◌else◌, Bool, true, pos, List, [], ◌∷◌, ◌++◌, codes, Some, None}
+use Rattle.frame_wire.specs.Fields.{u32_bytes}
 use Rattle.chunk_format.specs.declared.entry.Entry.{Entry}
 use Rattle.chunk_format.specs.declared.entry.Entry.TheVariants.{Simple}
 use Rattle.chunk_format.specs.declared.chunk.ChunkKind.TheVariants.{User, Delta, Snapshot}
@@ -7,17 +8,19 @@ use Rattle.chunk_format.specs.declared.chunk.Chunk.{Chunk}
 use Rattle.chunk_format.specs.Chunks.{header_of, entries_bytes}
 use Rattle.chunk_format.specs.Tags.{tag_bytes, delta_bytes, DeltaOffset}
 use Rattle.command_fields.specs.declared.offset.OffsetSpec.TheVariants.{First}
+use Rattle.command_fields.specs.declared.response.ResponseCode.TheVariants as says
 use Rattle.command_data.specs.declared.item.Tagged.{Tagged}
 use Rattle.command_data.specs.declared.command.DataCommand.TheVariants as data_commands
+use Rattle.command_admin.specs.declared.command.AdminCommand.TheVariants as admin_commands
 use Rattle.command_all.specs.declared.command.Command.{Command}
-use Rattle.command_all.specs.declared.command.Command.TheVariants.{Data}
+use Rattle.command_all.specs.declared.command.Command.TheVariants.{Data, Admin}
 use Rattle.command_all.specs.Commands.{frame_of}
 use Rattle.script_text.specs.declared.script.ScriptLine.TheVariants as script
 use Rattle.script_text.specs.declared.output.OutputLine.TheVariants as output
-use Rattle.script_text.specs.declared.output.Ending.TheVariants.{PeerEnded}
+use Rattle.script_text.specs.declared.output.Ending.TheVariants.{PeerEnded, ClosedByUs}
 use Rattle.list_machine.specs.Streams.{Frame, Confirmed, Declaration, Activity, Subscription, live, Stream, no_stream}
-use Rattle.list_machine.specs.Machines.{Connection, fresh, no_connection, Doing, Machine, empty_machine}
-use Rattle.list_machine.specs.Steps.{Event, read, handled, made, committed, sent, ended, told, MachineRun}
+use Rattle.list_machine.specs.Machines.{Connection, fresh, no_connection, adds, Doing, Machine, empty_machine}
+use Rattle.list_machine.specs.Steps.{Event, read, handled, misread, made, refused, found, committed, sent, ended, told, MachineRun}
 
 -- ---- what the events are made of
 
@@ -156,6 +159,26 @@ a_stop =
 
 abbrev pub the_worked_run : List Event
 the_worked_run = a_stream_made ++ (a_declaration ++ (a_confirm ++ (a_delivery ++ a_stop)))
+
+-- ---- other events
+
+-- a size above the greatest stands in a frame's place
+abbrev pub large_size : List ℕ
+large_size = u32_bytes 1048577
+
+abbrev pub closes_large : Command
+closes_large = Admin (admin_commands.Close 1 0x0e (Some (codes "frame too large")))
+
+-- a connection gives it, and is closed
+abbrev pub a_frame_too_large : List Event
+a_frame_too_large = read (script.Connect 1) ∷ read (script.Give 1 large_size) ∷ misread 1 closes_large ∷ sent 1 closes_large ∷ ended 1 (ClosedByUs 0x0e) ∷ []
+
+-- Stream "s" is there already. After an internal error it isn't known whether stream "t" is made; as "u" is made, it is
+-- found that it was.
+abbrev pub a_change_in_doubt : List Event
+a_change_in_doubt =
+    read (script.Create s_name) ∷ refused says.StreamAlreadyExists ∷ read (script.Create (codes "t")) ∷ refused says.InternalError
+    ∷ read (script.Create (codes "u")) ∷ found (adds None (Some (codes "t") ∷ [])) ∷ made ∷ []
 
 -- the events are a run of the machine with nothing
 abbrev pub HasRun : List Event → Type 0

@@ -1,18 +1,21 @@
 //! What the list machine runs of events that are written out, and what it refuses.
 
-ghost use Rattle.std.specs.Prelude.{List, [], ◌∷◌, Option};
+ghost use Rattle.std.specs.Prelude.{List, [], ◌∷◌, Option, ◌++◌};
 ghost use Rattle.command_all.specs.declared.command.Command.{Command};
 ghost use Rattle.script_text.specs.declared.output.Ending.{Ending};
 ghost use Rattle.list_machine.specs.Streams.{waiting, active, Stream};
 ghost use Rattle.list_machine.specs.Machines.{fresh, idle};
 ghost use Rattle.list_machine.specs.Steps.{committed, sent, handled, ended};
-ghost use Rattle.list_machine.specs.Examples.{HasRun, the_worked_run, item, chunk_of, opening, stored_chunk, machine_of, reader, is_declared, delivery};
+ghost use Rattle.list_machine.specs.Examples.{HasRun, a_stream_made, the_worked_run, a_frame_too_large, a_change_in_doubt, item, chunk_of, opening, stored_chunk, machine_of, reader, is_declared, delivery};
 ghost use Rattle.list_machine.specs.Wrongs.{HasNoStep, published, subscribed, one_waits, two_wait, two_then_one, one_confirmed, five_waits, first_chunk, second_chunk, later_opening, confirms_ids, ended_connection};
 
 /// Written out: a stream is made and opens, a publisher is declared, its item is committed and confirmed, a subscription
-/// gets it, all stops, and another epoch opens. It does nothing.
-pub fn a_worked_run_stands()
-    ensures { HasRun the_worked_run }
+/// gets it, all stops, and another epoch opens; a size too large closes its connection; a name is refused, and a stream is
+/// found that was in doubt. It does nothing.
+pub fn worked_runs_stand()
+    ensures worked { HasRun the_worked_run }
+    ensures large { HasRun (a_stream_made ++ a_frame_too_large) }
+    ensures doubted { HasRun (a_stream_made ++ a_change_in_doubt) }
 {}
 
 /// Not committed are a chunk out of its place, twice, or of a lower epoch; and a row that nobody sent, that passes an

@@ -8,7 +8,7 @@ mod laws;
 mod server;
 
 pub use examples::{
-    a_worked_run_stands, nothing_else_is_written, wrong_chunks_are_refused,
+    nothing_else_is_written, worked_runs_stand, wrong_chunks_are_refused,
     wrong_confirms_are_refused, wrong_deliveries_are_refused,
 };
 pub use joining::{handed_out_is_confirmed, moves_are_commits};
