@@ -11,3 +11,4 @@ pub mod Leading
 pub mod Counting
 pub mod Refusing
 pub mod ViewMoves
+pub mod Ends

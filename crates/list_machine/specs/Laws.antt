@@ -1,5 +1,5 @@
 -- What the laws of the list machine say.
-use Rattle.std.specs.Prelude.{◌≡◌, ℕ, ◌+◌, ◌≤◌, ◌==◌, ◌&&◌, Bool, if◌then◌else◌, List, [], ◌∷◌, ◌++◌, length, count_by, flat_map, Some}
+use Rattle.std.specs.Prelude.{◌≡◌, ◌≢◌, ℕ, ◌+◌, ◌≤◌, ◌==◌, ◌&&◌, Bool, if◌then◌else◌, List, [], ◌∷◌, ◌++◌, length, count_by, flat_map, Some}
 use Rattle.std.specs.List.{AllByRecursion}
 use Rattle.chunk_format.specs.declared.chunk.Chunk.{Chunk}
 use Rattle.chunk_format.specs.Logs.{users_above, bare_of, deltas_of, GoesOn}
@@ -7,6 +7,7 @@ use Rattle.command_data.specs.declared.item.Tagged.{Tagged}
 use Rattle.list_machine.specs.Items.{items_in, Rises, IsIn, AnyByRecursion, AtMostAsOften}
 use Rattle.list_machine.specs.Streams.{Confirmed, Declaration, Subscription, Stream, items_of, sent_unnamed, Counted}
 use Rattle.list_machine.specs.Commits.{WasSent}
+use Rattle.list_machine.specs.Steps.{Event, read, handled, misread, made, refused, found, committed, sent, ended, told}
 use Rattle.list_machine.specs.Moves.{Move, begins, finishes, commits, declares, undeclares, publishes, refuses, confirms, subscribes, unsubscribes, asks, starts, rests, grants, delivers, stores, leaves, forgets}
 
 -- ---- rows
@@ -112,3 +113,18 @@ tally_by c id forgets t = t
 abbrev pub Tallied : ℕ → ℕ → Tally → List Move → Tally
 Tallied c id t [] = t
 Tallied c id t (move ∷ moves) = Tallied c id (tally_by c id move t) moves
+
+-- ---- what comes behind the end of a connection
+
+-- the event handles nothing of the connection, writes nothing on it and doesn't end it
+abbrev pub IsNotOf : ℕ → Event → Type 0
+IsNotOf c (handled other command answer) = other ≢ c
+IsNotOf c (misread other answer) = other ≢ c
+IsNotOf c (sent other command) = other ≢ c
+IsNotOf c (ended other how) = other ≢ c
+IsNotOf c (read line) = Unit {0}
+IsNotOf c made = Unit {0}
+IsNotOf c (refused code) = Unit {0}
+IsNotOf c (found change) = Unit {0}
+IsNotOf c (committed number chunk) = Unit {0}
+IsNotOf c (told line) = Unit {0}

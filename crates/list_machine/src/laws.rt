@@ -1,16 +1,19 @@
 //! Laws of the list machine, over every run from the machine with nothing.
 
-ghost use Rattle.std.specs.Prelude.{◌≡◌, ℕ, List, Option};
+ghost use Rattle.std.specs.Prelude.{◌≡◌, ℕ, List, Option, ◌++◌, ◌∷◌};
 ghost use Rattle.std.specs.List.{AllByRecursion};
 ghost use Rattle.chunk_format.specs.Logs.{GoesOn, IsLog};
 ghost use Rattle.command_data.specs.declared.item.Tagged.{Tagged};
+ghost use Rattle.chunk_format.specs.declared.chunk.Chunk.{Chunk};
+ghost use Rattle.script_text.specs.declared.output.Ending.{Ending};
+ghost use Rattle.list_machine.specs.Commits.{CommitStep};
 ghost use Rattle.list_machine.specs.Streams.{Stream, Subscription, no_stream};
 ghost use Rattle.list_machine.specs.Moves.{Move, StreamRun};
 ghost use Rattle.list_machine.specs.Machines.{Machine, empty_machine};
-ghost use Rattle.list_machine.specs.Steps.{Event, MachineRun, moves_at};
+ghost use Rattle.list_machine.specs.Steps.{Event, committed, ended, MachineStep, MachineRun, moves_at};
 ghost use Rattle.list_machine.specs.Transcripts.{CommitLines};
 ghost use Rattle.list_machine.specs.Discipline.{Disciplined, DisciplinedRun};
-ghost use Rattle.list_machine.specs.Laws.{RowsRight, ExactlyOnce, DeliversRun, ConfirmedBy, tally_of, no_tally, Tallied};
+ghost use Rattle.list_machine.specs.Laws.{IsNotOf, RowsRight, ExactlyOnce, DeliversRun, ConfirmedBy, tally_of, no_tally, Tallied};
 
 /// The chunks of a stream's commit lines are its list, which is contiguous from 0 with epochs that don't fall; and over
 /// each further run, also where all stops, it only grows. It does nothing.
@@ -40,4 +43,15 @@ pub fn confirmed_stand_once()
 pub fn deliveries_are_runs()
     ensures told { (events : List Event) (new : Machine) (number : ℕ) (run : MachineRun empty_machine events new) → AllByRecursion (λ (s : Subscription). tally_of s ≡ Tallied s.connection s.id no_tally (moves_at number empty_machine events new run)) (new.streams number).subscriptions }
     ensures runs { (events : List Event) (new : Machine) (number : ℕ) → MachineRun empty_machine events new → AllByRecursion (DeliversRun (new.streams number).chunks) (new.streams number).subscriptions }
+{}
+
+/// Each commit line is a Commit of its stream. It does nothing.
+pub fn commit_lines_are_commits()
+    ensures { (old new : Machine) (number : ℕ) (chunk : Chunk) → MachineStep old (committed number chunk) new → CommitStep (old.streams number) chunk (new.streams number) }
+{}
+
+/// Behind the line that ends it nothing is written on a connection, no command of it is handled, and it doesn't end again.
+/// It does nothing.
+pub fn nothing_comes_behind_the_end()
+    ensures { (before behind : List Event) (c : ℕ) (how : Ending) (old new : Machine) → MachineRun old (before ++ ended c how ∷ behind) new → AllByRecursion (IsNotOf c) behind }
 {}

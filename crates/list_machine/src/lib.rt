@@ -12,5 +12,8 @@ pub use examples::{
     wrong_confirms_are_refused, wrong_deliveries_are_refused,
 };
 pub use joining::{handed_out_is_confirmed, moves_are_commits};
-pub use laws::{confirmed_stand_once, deliveries_are_runs, lists_only_grow, rows_are_right};
+pub use laws::{
+    commit_lines_are_commits, confirmed_stand_once, deliveries_are_runs, lists_only_grow,
+    nothing_comes_behind_the_end, rows_are_right,
+};
 pub use server::{a_server_commits, a_server_confirms};
