@@ -1,0 +1,7 @@
+//! Tests of `script_text`: lines that are known from outside.
+#![tactic(auto)]
+
+#[cfg(test)]
+mod lines;
+#[cfg(test)]
+mod outputs;
