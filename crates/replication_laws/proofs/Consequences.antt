@@ -5,7 +5,7 @@ use Rattle.std.proofs.lemmas.List.{append-nil, append_cancel_left}
 use Rattle.chunk_format.specs.declared.chunk.Chunk.{Chunk}
 use Rattle.chunk_format.specs.Chunks.{end_of_chunk}
 use Rattle.chunk_format.specs.Logs.{GoesOn, last_epoch, IsLog, HasRun}
-use Rattle.chunk_format.proofs.LinkLaws.{end_push, epoch_push, chunk_goes_on, run_tail}
+use Rattle.chunk_format.proofs.LinkLaws.{end_push, epoch_push, chunk_goes_on, run_left, run_parts, run_tail}
 use Rattle.chunk_format.proofs.BeginLaws.{goes_on, goes_either, log_front, goes_push_cases}
 use Rattle.epoch_coordinator.specs.declared.tail.Tail.{Tail}
 use Rattle.epoch_coordinator.specs.declared.message.Job.{Job}
@@ -17,7 +17,7 @@ use Rattle.epoch_coordinator.specs.Tails.{tail_of}
 use Rattle.epoch_coordinator.specs.Members.{MemberState}
 use Rattle.epoch_coordinator.specs.MemberSteps.{epoch_of}
 use Rattle.replication_laws.specs.Cluster.{Reign, ClusterState, seat, member, durable, reign, InRuns, HoldsBy, Holds}
-use Rattle.replication_laws.specs.Soundness.{Tree, IsRooted, IsMark, Follows, HasReign, LeadsEpoch, AskHolds, AskElects, AppendHolds, IsCalm, ReplyHolds, LeadsWith, MessageHolds, JobHolds, acked, LeaderHolds, RoleHolds, ElectingHolds, PhaseHolds, Sound, IsSound}
+use Rattle.replication_laws.specs.Soundness.{Tree, OwnBehind, IsRooted, IsMark, Follows, HasReign, LeadsEpoch, AskHolds, AskElects, AppendHolds, IsCalm, ReplyHolds, LeadsWith, MessageHolds, JobHolds, acked, LeaderHolds, RoleHolds, ElectingHolds, PhaseHolds, Sound, IsSound}
 use Rattle.replication_laws.specs.Clauses.{Occurs, In_holding, In_append, IsOnItsWay, Asked, On_its_way, Counted, Bounded, OccurrencesAgree, OpensBehind, EpochsOpen, LeadersLead, ElectionsAreStill, AsksAreTrue}
 use Rattle.replication_laws.proofs.Logs.{goes_one, begins_as, same_begins, none_begins, front_end, front_epoch, log_push, push_follows, same_ends, rooted_front}
 use Rattle.replication_laws.proofs.Carry.{is_tree, held_log, held_below}
@@ -219,8 +219,8 @@ epochs_open o w is =
     let s = is.sound in
     record {
       held = λ e k r h has held stands. held_opens g s e k r h has held (stands_by e h stands);
-      agree = λ e a b ha hb xa xb ne ta tb.
-          held_agree g w o a b e ha hb s xa xb (λ same. absurd (ne same)) (upto_ends e ha (held_log g w a (seat w a) (s.each_member a) ha xa) ta) (upto_ends e hb (held_log g w b (seat w b) (s.each_member b) hb xb) tb);
+      agree = λ e a b ha hb xa xb ta tb.
+          held_agree g w o a b e ha hb s xa xb (upto_ends e ha (held_log g w a (seat w a) (s.each_member a) ha xa) ta) (upto_ends e hb (held_log g w b (seat w b) (s.each_member b) hb xb) tb);
       known = λ c t x. (let p = located g w o c t s x in elim p.place [
         | inl q ↦ elim (s.tree.known c.epoch) [
           | inl nil ↦ absurd (not_none p.before c (none_begins (p.before ++ c ∷ []) (begins_as (p.before ++ c ∷ []) (g.canon c.epoch) [] nil q)))
@@ -272,6 +272,59 @@ in_leader g w o e k before c t s leads pe p tail =
       | inr x ↦ (before, p.0, x.0 ∙ p.1, tail)
     ]
 
+-- chunks of one epoch have no run of another
+no_run : (e d m : ℕ) (own : List Chunk) → AllByRecursion (λ (c : Chunk). c.epoch ≡ e) own → d < e → HasRun own d m → ⊥
+no_run e d m [] es lt h = h
+no_run e d m (c ∷ own) es lt (inl h) = omega (arith, es.0, lt, h.0)
+no_run e d m (c ∷ own) es lt (inr h) = no_run e d m own es.1 lt h
+
+-- a log that goes on from where a reign began by chunks of the epoch alone has the reign's runs below it
+runs_below : (g : Tree) (w : ClusterState) (o e d m : ℕ) (r : Reign) (h own : List Chunk) → Sound g o w → reign w e ≡ Some r → h ≡ g.base e ++ own → AllByRecursion (λ (c : Chunk). c.epoch ≡ e) own → d < e → HasRun h d m ↔ InRuns r.runs d m
+runs_below g w o e d m r h own s is parts es lt =
+    let rh = s.each_reign e r is in (
+      λ x. elim (run_parts (g.base e) own d m (subst (λ (l : List Chunk). HasRun l d m) parts x)) [
+        | inl y ↦ (rh.runs d m).1 y
+        | inr y ↦ absurd (no_run e d m own es lt y)
+      ],
+      λ x. subst (λ (l : List Chunk). HasRun l d m) (sym parts) (run_left (g.base e) own d m ((rh.runs d m).0 x)),
+    )
+
+-- each log that the disk of a leader may have goes on so
+leader_parts : (g : Tree) (w : ClusterState) (o k : ℕ) (h : List Chunk) → Sound g o w → LeadsEpoch w (member w k).promise k → Holds (member w k) h
+    → (own : List Chunk) × (h ≡ g.base (member w k).promise ++ own) × AllByRecursion (λ (c : Chunk). c.epoch ≡ (member w k).promise) own
+leader_parts g w o k h s leads held = go m.job (s.each_member k).job held
+  where
+    m : MemberState
+    m = member w k
+
+    lw : LeadsWith g m.promise m.log
+    lw = (s.each_member k).leads leads
+
+    own : OwnBehind g m.promise
+    own = (s.each_reign m.promise leads.0 leads.1).begins
+
+    of_log : LeadsWith g m.promise m.log → OwnBehind g m.promise → (own : List Chunk) × (m.log ≡ g.base m.promise ++ own) × AllByRecursion (λ (c : Chunk). c.epoch ≡ m.promise) own
+    of_log (inl x) o = ([], x.1 ∙ sym (append-nil (g.base m.promise)), tt)
+    of_log (inr x) (inl nil) =
+        let none : m.log ≡ [] = x.0 ∙ nil in
+        let base : g.base m.promise ≡ [] = none_begins (g.base m.promise) (begins_as (g.base m.promise) m.log [] none x.1) in
+        ([], none ∙ (sym base ∙ sym (append-nil (g.base m.promise))), tt)
+    of_log (inr x) (inr y) = (y.0, x.0 ∙ y.1, y.2)
+
+    plain : h ≡ m.log → (own : List Chunk) × (h ≡ g.base m.promise ++ own) × AllByRecursion (λ (c : Chunk). c.epoch ≡ m.promise) own
+    plain e = (let x = of_log lw own in (x.0, e ∙ x.1, x.2))
+
+    go : (j : Option Job) → JobHolds g w k m.promise m.log j → HoldsBy j m.log h → (own : List Chunk) × (h ≡ g.base m.promise ++ own) × AllByRecursion (λ (c : Chunk). c.epoch ≡ m.promise) own
+    go None jh x = plain x
+    go (Some (Promise n)) jh x = plain x
+    go (Some (Epoch n)) jh x = absurd jh
+    go (Some (Cut to)) jh x = absurd (jh.1 leads)
+    go (Some (Write c)) jh (inl x) = plain x
+    go (Some (Write c)) jh (inr x) = elim jh.3 [
+      | inl y ↦ (let z = own_log g m.promise m.log c lw own y.0 in (z.0, x ∙ z.1, z.2))
+      | inr y ↦ absurd (y.0 leads)
+    ]
+
 pub leaders_lead : (o : ℕ) (w : ClusterState) → IsSound o w → LeadersLead w
 leaders_lead o w is =
     let g = is.tree in
@@ -283,6 +336,7 @@ leaders_lead o w is =
           (h.0.0, h.0.1, λ d m. (λ y. (rh.runs d m).1 ((h.1 d m).0 y), λ y. (h.1 d m).1 ((rh.runs d m).0 y))));
       sent = λ e to k t c x leads pe. (let app : AppendHolds g w e t c = on_its_way g w o to (messages.Append e t c) s x in in_leader g w o e k app.before c t s leads pe app.sent_from app.tail_is);
       leads = λ k l role. (let rh : LeaderHolds g w k (member w k).promise l = subst (RoleHolds g w k (member w k).promise) role (s.each_member k).role in rh.leads);
+      held = λ k d n r h leads is x lt. (let p = leader_parts g w o k h s leads x in runs_below g w o (member w k).promise d n r h p.0 s is p.1 p.2 lt);
       stands = λ k c t leads x ce. (let p = located g w o c t s x in elim p.place [
         | inl q ↦ inl (in_leader g w o (member w k).promise k p.before c t s leads refl (subst (λ (n : ℕ). GoesOn (p.before ++ c ∷ []) (g.canon n)) ce q) p.tail_is)
         | inr y ↦

@@ -27,10 +27,10 @@ use Rattle.replication_laws.proofs.Properties.{all_have}
 
 -- the beginning up to e of a log that a disk may have: it begins the longest log of e, or has the chunk that the leader of e was writing
 abbrev UptoKind : Tree → ClusterState → ℕ → ℕ → List Chunk → Type 0
-UptoKind g w k e h = GoesOn (upto e h) (g.canon e) ⊎ ((c : Chunk) × (upto e h ≡ (member w k).log ++ c ∷ []) × ((member w k).promise ≡ e) × LeadsEpoch w e k)
+UptoKind g w k e h = GoesOn (upto e h) (g.canon e) ⊎ ((c : Chunk) × (upto e h ≡ (member w k).log ++ c ∷ []) × ((member w k).promise ≡ e) × LeadsEpoch w e k × ((member w k).job ≡ Some (Write c)))
 
 upto_kind : (g : Tree) (w : ClusterState) (o k e : ℕ) (h : List Chunk) → Sound g o w → Holds (member w k) h → last_epoch (upto e h) ≡ e → UptoKind g w k e h
-upto_kind g w o k e h s x te = go (member w k).job (s.each_member k).job x
+upto_kind g w o k e h s x te = go (member w k).job refl (s.each_member k).job x
   where
     m : MemberState
     m = member w k
@@ -44,13 +44,13 @@ upto_kind g w o k e h s x te = go (member w k).job (s.each_member k).job x
     log : IsRooted g.canon m.log
     log = (s.each_member k).rooted
 
-    go : (j : Option Job) → JobHolds g w k m.promise m.log j → HoldsBy j m.log h → UptoKind g w k e h
-    go None jh q = plain (rw q log)
-    go (Some (Promise p)) jh q = plain (rw q log)
-    go (Some (Epoch p)) jh q = absurd jh
-    go (Some (Cut to)) jh q = plain (rooted_front g.canon h m.log (is_tree g w o s.tree) log q.0)
-    go (Some (Write c)) jh (inl q) = plain (rw q log)
-    go (Some (Write c)) jh (inr q) = elim jh.3 [
+    go : (j : Option Job) → m.job ≡ j → JobHolds g w k m.promise m.log j → HoldsBy j m.log h → UptoKind g w k e h
+    go None job jh q = plain (rw q log)
+    go (Some (Promise p)) job jh q = plain (rw q log)
+    go (Some (Epoch p)) job jh q = absurd jh
+    go (Some (Cut to)) job jh q = plain (rooted_front g.canon h m.log (is_tree g w o s.tree) log q.0)
+    go (Some (Write c)) job jh (inl q) = plain (rw q log)
+    go (Some (Write c)) job jh (inr q) = elim jh.3 [
       | inr y ↦ plain (rw q y.1)
       | inl y ↦
           let front : GoesOn (upto e h) (m.log ++ c ∷ []) = begins_as (upto e h) h (m.log ++ c ∷ []) q (upto_front e h) in
@@ -59,7 +59,7 @@ upto_kind g w o k e h s x te = go (member w k).job (s.each_member k).job x
             | inr p ↦
                 let ends : c.epoch ≡ e = sym (epoch_push m.log c) ∙ (ap last_epoch (sym p) ∙ te) in
                 let same : m.promise ≡ e = sym y.0 ∙ ends in
-                inr (c, p, same, subst (λ (n : ℕ). LeadsEpoch w n k) same y.1)
+                inr (c, p, same, subst (λ (n : ℕ). LeadsEpoch w n k) same y.1, job)
           ]
     ]
 
@@ -74,8 +74,8 @@ under g w o k e c xs s pe leads p =
     ]
 
 -- of two logs that disks may have, one begins the other up to each epoch that both have
-pub held_agree : (g : Tree) (w : ClusterState) (o a b e : ℕ) (ha hb : List Chunk) → Sound g o w → Holds (member w a) ha → Holds (member w b) hb → (a ≡ b → ha ≡ hb) → AgreeAt e ha hb
-held_agree g w o a b e ha hb s xa xb one ta tb =
+pub held_agree : (g : Tree) (w : ClusterState) (o a b e : ℕ) (ha hb : List Chunk) → Sound g o w → Holds (member w a) ha → Holds (member w b) hb → AgreeAt e ha hb
+held_agree g w o a b e ha hb s xa xb ta tb =
     elim (upto_kind g w o a e ha s xa ta) [
       | inl p ↦ elim (upto_kind g w o b e hb s xb tb) [
         | inl q ↦ goes_either (upto e ha) (upto e hb) (g.canon e) p q
@@ -84,8 +84,11 @@ held_agree g w o a b e ha hb s xa xb one ta tb =
       | inr x ↦ elim (upto_kind g w o b e hb s xb tb) [
         | inl q ↦ inr (begins_as (upto e hb) ((member w a).log ++ x.0 ∷ []) (upto e ha) (sym x.1) (under g w o a e x.0 (upto e hb) s x.2 x.3 q))
         | inr y ↦
-            let same = one (leads_unique w e a b x.3 y.3) in
-            inl (same_begins (upto e ha) (upto e hb) (ap (upto e) same))
+            let same = leads_unique w e a b x.3 y.3 in
+            let job : (member w a).job ≡ Some (Write y.0) = ap (λ (n : ℕ). (member w n).job) same ∙ y.4 in
+            let first = x.4 in
+            let chunk : x.0 ≡ y.0 = cc (first, job) in
+            inl (same_begins (upto e ha) (upto e hb) (x.1 ∙ (ap (λ (d : Chunk). (member w a).log ++ d ∷ []) chunk ∙ (ap (λ (n : ℕ). (member w n).log ++ y.0 ∷ []) same ∙ sym y.1))))
       ]
     ]
 
@@ -94,8 +97,7 @@ recovered_agree g w o epoch ss s r i j e ti tj = elim (cases_lt i (length ss)) [
   | inr ge ↦ inl (subst (λ (l : List Chunk). GoesOn (upto e l) (upto e (log_at ss j))) (sym (past_log ss i ge)) (goes_none (upto e (log_at ss j))))
   | inl li ↦ elim (cases_lt j (length ss)) [
     | inr ge ↦ inr (subst (λ (l : List Chunk). GoesOn (upto e l) (upto e (log_at ss i))) (sym (past_log ss j ge)) (goes_none (upto e (log_at ss i))))
-    | inl lj ↦ held_agree g w o (i + 1) (j + 1) e (log_at ss i) (log_at ss j) s (r.held i li) (r.held j lj)
-        (λ same. let eq : i ≡ j = omega (arith, same) in ap (log_at ss) eq) ti tj
+    | inl lj ↦ held_agree g w o (i + 1) (j + 1) e (log_at ss i) (log_at ss j) s (r.held i li) (r.held j lj) ti tj
   ]
 ]
 

@@ -61,16 +61,16 @@ pub record OpensBehind (runs : List Run) (epoch : ℕ) (log : List Chunk) : Type
   pub exact : (d m : ℕ) → InRuns runs d m ↔ HasRun front d m
 
 -- In each holding with a chunk of a reign's epoch that epoch opens behind exactly the reign's runs. Of two holdings that both have a chunk of one
--- epoch, one begins the other up to that epoch, but for what its own leader is writing. Each chunk that occurs has an epoch from before the opening, or that of a reign.
+-- epoch, one begins the other up to that epoch. Each chunk that occurs has an epoch from before the opening, or that of a reign.
 pub record EpochsOpen (opened : ℕ) (w : ClusterState) : Type 0 where
   pub held : (epoch k : ℕ) (r : Reign) (h : List Chunk) → reign w epoch ≡ Some r → Holds (member w k) h → has_epoch epoch h ≡ true → OpensBehind r.runs epoch h
-  pub agree : (epoch a b : ℕ) (ha hb : List Chunk) → Holds (member w a) ha → Holds (member w b) hb → (a ≢ b) → has_epoch epoch ha ≡ true → has_epoch epoch hb ≡ true
+  pub agree : (epoch a b : ℕ) (ha hb : List Chunk) → Holds (member w a) ha → Holds (member w b) hb → has_epoch epoch ha ≡ true → has_epoch epoch hb ≡ true
       → GoesOn (upto epoch ha) (upto epoch hb) ⊎ GoesOn (upto epoch hb) (upto epoch ha)
   pub known : (c : Chunk) (t : Tail) → Occurs w c t → (c.epoch ≤ opened) ⊎ HasReign w c.epoch
 
 -- Open goes to the leader of its reign alone; Follow names it and goes to others; a Shape has the reign's runs; an Append has a chunk that follows its
--- tail in the leader's log, as long as the leader's promise is the epoch; a member in the role of leader is that leader; each chunk of its epoch that
--- occurs stands then in its log, but for the chunk that it is writing.
+-- tail in the leader's log, as long as the leader's promise is the epoch; a member in the role of leader is that leader, and its holdings have exactly
+-- the reign's runs below the epoch; each chunk of its epoch that occurs stands then in its log, but for the chunk that it is writing.
 pub record LeadersLead (w : ClusterState) : Type 0 where
   pub told_open : (epoch to : ℕ) → IsOnItsWay w to (messages.Open epoch) → LeadsEpoch w epoch to
   pub told_follow : (epoch leader to : ℕ) → IsOnItsWay w to (messages.Follow epoch leader) → LeadsEpoch w epoch leader × (to ≢ leader)
@@ -78,6 +78,7 @@ pub record LeadersLead (w : ClusterState) : Type 0 where
   pub sent : (epoch to k : ℕ) (t : Tail) (c : Chunk) → IsOnItsWay w to (messages.Append epoch t c) → LeadsEpoch w epoch k → (member w k).promise ≡ epoch
       → (front : List Chunk) × (rest : List Chunk) × ((member w k).log ≡ (front ++ c ∷ []) ++ rest) × (tail_of front ≡ t)
   pub leads : (k : ℕ) (l : Leading) → (member w k).role ≡ Leader l → LeadsEpoch w (member w k).promise k
+  pub held : (k d m : ℕ) (r : Reign) (h : List Chunk) → LeadsEpoch w (member w k).promise k → reign w (member w k).promise ≡ Some r → Holds (member w k) h → d < (member w k).promise → HasRun h d m ↔ InRuns r.runs d m
   pub stands : (k : ℕ) (c : Chunk) (t : Tail) → LeadsEpoch w (member w k).promise k → Occurs w c t → c.epoch ≡ (member w k).promise
       → ((front : List Chunk) × (rest : List Chunk) × ((member w k).log ≡ (front ++ c ∷ []) ++ rest) × (tail_of front ≡ t)) ⊎ ((member w k).job ≡ Some (Write c))
 
