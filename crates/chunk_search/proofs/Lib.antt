@@ -1,3 +1,4 @@
 mod Parts
 mod Whole
 pub mod Found
+pub mod Finders
