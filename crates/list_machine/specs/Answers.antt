@@ -1,5 +1,5 @@
 -- What a command does when it is handled, and how it is answered.
-use Rattle.std.specs.Prelude.{◌≡◌, ℕ, ◌+◌, ◌==◌, ◌&&◌, ◌≤◌, nat_le, if◌then◌else◌, Bool, false, List, [], ◌∷◌, ◌++◌, length, map, codes, Option, Some, None, unwrap_or}
+use Rattle.std.specs.Prelude.{◌≡◌, ℕ, ◌+◌, ◌==◌, ◌&&◌, ◌≤◌, nat_le, if◌then◌else◌, Bool, false, List, [], ◌∷◌, ◌++◌, length, map, codes, Option, Some, None, unwrap_or, ◌⊎◌}
 use Rattle.std.specs.List.{AllByRecursion, list_any}
 use Rattle.chunk_format.specs.declared.chunk.Chunk.{Chunk}
 use Rattle.chunk_format.specs.Logs.{same_name, Greatest, LastStored}
@@ -19,6 +19,7 @@ use Rattle.command_all.specs.declared.command.Command.TheVariants.{Data, Admin}
 use Rattle.command_all.specs.Reading.{ReadingEnd, Partial, Unspelt, TooLarge}
 use Rattle.script_text.specs.declared.output.Ending.{Ending}
 use Rattle.script_text.specs.declared.output.Ending.TheVariants.{ClosedByPeer, ClosedByUs}
+use Rattle.list_machine.specs.Streams.{Activity, starting, stopping, Subscription}
 use Rattle.list_machine.specs.Moves.{Move, declares, undeclares, publishes, refuses, subscribes, unsubscribes, starts, rests, grants, stores}
 use Rattle.list_machine.specs.Machines.{open_now, leaving, Connection, Change, adds, drops, Machine, Moves, nowhere, only, changed, last_behind, IsNamed, IsMissing, AreNew, IsPartition, ArePartitions, IsUndeclared, IsUnsubscribed}
 use Rattle.list_machine.specs.Lines.{linked}
@@ -150,11 +151,20 @@ abbrev pub spec_of : Option OffsetSpec → OffsetSpec
 spec_of None = Unset
 spec_of (Some spec) = spec
 
+-- it was asked to be active or to stop, under this correlation
+abbrev pub IsAsked : ℕ → Activity → Type 0
+IsAsked corr activity = (activity ≡ starting corr) ⊎ (activity ≡ stopping corr)
+
+-- no consumer of the connection was asked under this correlation
+abbrev pub IsUnasked : Machine → ℕ → ℕ → Type 0
+IsUnasked old connection corr =
+    (number : ℕ) → AllByRecursion (λ (s : Subscription). s.connection ≡ connection → IsAsked corr s.activity → ⊥) (old.streams number).subscriptions
+
 -- a consumer answers the question of this correlation, or nobody was asked
 pub data Replies (old : Machine) (connection corr : ℕ) (content : Option OffsetSpec) (outcome : Outcome) : Type 0 where
   Starts : (number id : ℕ) → outcome ≡ acts number (start connection id corr (spec_of content)) → Replies old connection corr content outcome
   Rests : (number id : ℕ) → outcome ≡ acts number (rest connection id corr) → Replies old connection corr content outcome
-  Unasked : outcome ≡ nothing → Replies old connection corr content outcome
+  Unasked : IsUnasked old connection corr → outcome ≡ nothing → Replies old connection corr content outcome
 
 -- ---- stored offsets
 

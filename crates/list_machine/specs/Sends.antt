@@ -25,9 +25,9 @@ ids_of_items items = map (λ (x : Tagged). x.id) items
 
 -- By the version of Deliver of the connection: the chunk's header and payload; in version 2 also the first offset of the
 -- last chunk of the list as seen.
-abbrev pub committed_by : ℕ → Stream → Option ℕ → Type 0
-committed_by version stream None = version ≡ 1
-committed_by version stream (Some committed) = (version ≡ 2) × (last_first stream.seen ≡ Some committed)
+abbrev pub InVersion : ℕ → Stream → Option ℕ → Type 0
+InVersion version stream None = version ≡ 1
+InVersion version stream (Some committed) = (version ≡ 2) × (last_first stream.seen ≡ Some committed)
 
 -- a publisher or a subscription of this connection is gone
 abbrev pub IsGone : ℕ → Move → Type 0
@@ -40,7 +40,7 @@ pub data Sends (old : Machine) (c : ℕ) (command : Command) (moves : Moves) (af
       → moves ≡ only number (confirms c id name items ∷ []) → after ≡ old → Sends old c command moves after
   -- Deliver: a chunk
   Delivers : (number id : ℕ) (chunk : Chunk) (committed : Option ℕ) → command ≡ Data (delivery_of id committed (header_of chunk) (entries_bytes chunk.entries))
-      → committed_by (old.connections c).version (old.streams number) committed
+      → InVersion (old.connections c).version (old.streams number) committed
       → moves ≡ only number (delivers c id chunk ∷ []) → after ≡ old → Sends old c command moves after
   -- MetadataUpdate: some of the connection's publishers and subscriptions on the stream of this name are gone
   Loses : (number : ℕ) (lost : List Move) → command ≡ Admin (MetadataUpdate (number_of_code says.StreamNotAvailable) (Some (old.streams number).name))
