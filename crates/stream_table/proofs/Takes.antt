@@ -1,7 +1,6 @@
 -- What a table's streams take.
-use Rattle.std.proofs.Common.{◌≡◌, ℕ, ◌≤◌, List, [], ◌∷◌, length, Option, Some, None, Result, Ok, Err, refl, sym, ap, subst, ◌∙◌, inl, arith}
+use Rattle.std.proofs.Common.{◌≡◌, ℕ, ◌≤◌, List, [], length, Some, None, Result, Ok, Err, refl, sym, ap, subst, ◌∙◌, inl, arith}
 use Rattle.std.specs.Prelude.{nat_lt, Bool, true, false}
-use Rattle.chunk_format.specs.declared.chunk.Chunk.{Chunk}
 use Rattle.chunk_format.specs.Logs.{end_of}
 use Rattle.command_data.specs.declared.item.Tagged.{Tagged}
 use Rattle.stream_terms.specs.declared.terms.Pass.{Pass}
@@ -11,8 +10,8 @@ use Rattle.stream_terms.specs.declared.terms.DeclareFault.{DeclareFault}
 use Rattle.stream_terms.specs.declared.terms.DeclareFault.TheVariants as closed
 use Rattle.stream_terms.specs.declared.terms.OfferFault.{OfferFault}
 use Rattle.stream_terms.specs.declared.terms.OfferFault.TheVariants as refused
-use Rattle.stream_terms.specs.Views.{StreamView, StreamHolds, name_of}
-use Rattle.stream_terms.specs.Steps.{DeclareStep, DeclareRefused, OfferTaken, OfferRefused, OffsetTaken, OffsetRefused, MoveStep, IsOfUse, put_by, queued}
+use Rattle.stream_terms.specs.Views.{StreamView, name_of}
+use Rattle.stream_terms.specs.Steps.{DeclareStep, DeclareRefused, OfferTaken, OfferRefused, OffsetRefused, IsOfUse, put_by, queued}
 use Rattle.stream_terms.proofs.Keeping.{declared_holds}
 use Rattle.hub_terms.specs.Calls.{Words, Declaring, Offering, StoringOffset}
 use Rattle.hub_terms.specs.Meaning.{IsShortName}
