@@ -1,10 +1,10 @@
 //! What a member does when its job is done, and with offers.
 
-ghost use Rattle.std.specs.Prelude.{◌≡◌, ◌≤◌, ◌∷◌, [], Some, None, IsSome, OnOk, OnErr, IfOk};
+ghost use Rattle.std.specs.Prelude.{◌≡◌, ◌+◌, ◌<◌, ◌≤◌, ◌^◌, ◌∷◌, [], length, Some, None, IsSome, OnOk, OnErr, IfOk};
 ghost use Rattle.chunk_format.specs.declared.chunk.ChunkKind.TheVariants.{Snapshot};
 ghost use Rattle.chunk_format.specs.Chunks.{IsChunk};
-ghost use Rattle.chunk_format.specs.Logs.{end_of};
-ghost use Rattle.chunk_format.specs.ByName.{snapshot_entry_of};
+ghost use Rattle.chunk_format.specs.Logs.{end_of, opening_chunk};
+ghost use Rattle.chunk_format.specs.ByName.{snapshot_body, snapshot_entry_of};
 ghost use Rattle.epoch_coordinator.specs.declared.message.Job.TheVariants as jobs;
 ghost use Rattle.epoch_coordinator.specs.Members.{sequence_of};
 ghost use Rattle.epoch_coordinator.specs.MemberSteps.{Took, finished, asks_by, cut_at, wrote, says_stopped, next_job, behind_first, offered};
@@ -213,5 +213,19 @@ impl Member {
     {
         let stored = Stored::make(self.alloc, &chunk)?;
         self.queue(stored)
+    }
+
+    /// A leader that is opened takes a snapshot of its sequence behind it, with this stamp in
+    /// milliseconds. An offset is left behind the sequence, and the snapshot's entry has at most
+    /// 2,147,483,647 bytes. Where memory runs out nothing changes.
+    pub fn offer_snapshot(&mut self, stamp: i64) -> Result<(), AllocError>
+        requires open { IsOpen self.old.role }
+        requires end { end_of (sequence_of self.old) + 1 < 2 ^ 64 }
+        requires len { length (snapshot_body (sequence_of self.old)) < 2 ^ 31 }
+        ensures ok { OnOk result (self.new ≡ offered (opening_chunk self.old.promise stamp (sequence_of self.old)) self.old) }
+        ensures err { OnErr result (self.new ≡ self.old) }
+    {
+        let chunk = self.log.snapshot(self.promise, stamp)?;
+        self.queue(chunk)
     }
 }
