@@ -1,12 +1,11 @@
 -- How a change is spelled in the file of changes: its kind as one byte, its number in four, the name as a text, and of a super stream that comes the names of its partitions and their binding keys, as lists of texts.
-use Rattle.std.specs.Prelude.{◌≡◌, ◌≢◌, ◌<◌, ◌≤◌, ◌^◌, ◌==◌, ℕ, Bool, true, false, ◌&&◌, nat_lt, List, [], length, Option, Some, None, Result, Ok, Err, if◌then◌else◌}
-use Rattle.std.specs.List.{AllByRecursion}
+use Rattle.std.specs.Prelude.{◌≡◌, ◌<◌, ◌^◌, ◌==◌, ℕ, Bool, true, false, ◌&&◌, nat_lt, List, [], length, Option, Some, None, Result, Ok, Err, if◌then◌else◌}
 use Rattle.frame_wire.specs.declared.fault.FieldFault.{FieldFault}
 use Rattle.frame_wire.specs.declared.fault.FieldFault.TheVariants.{Short}
 use Rattle.frame_wire.specs.Fields.{IsText}
 use Rattle.frame_wire.specs.Reading.{Spot}
 use Rattle.frame_wire.specs.Formats.{Format, u8_field, u32_field, text_field}
-use Rattle.frame_wire.specs.Joins.{◌then◌, list, end_of, mapped}
+use Rattle.frame_wire.specs.Joins.{◌then◌, list}
 use Rattle.frame_wire.specs.Views.{behind, viewed}
 use Rattle.frame_wire.specs.Items.{same_fault}
 use Rattle.stream_catalog.specs.declared.change.Change.{Change}

@@ -1,5 +1,5 @@
 -- The catalog that the files on a disk stand for.
-use Rattle.std.specs.Prelude.{◌≡◌, ℕ, ◌+◌, ◌^◌, ◌==◌, Bool, false, ◌&&◌, nat_lt, nat_le, is_none, List, [], ◌∷◌, length, take, drop, Option, Some, None, option_and_then, Result, Ok, Err, if◌then◌else◌}
+use Rattle.std.specs.Prelude.{ℕ, ◌+◌, ◌^◌, ◌==◌, Bool, false, ◌&&◌, nat_lt, nat_le, is_none, List, [], ◌∷◌, length, take, drop, Option, Some, None, option_and_then, Result, Ok, Err, if◌then◌else◌}
 use Rattle.disk_calls.specs.declared.file_id.FileId.{FileId}
 use Rattle.disk_calls.specs.declared.file_id.FileName.TheVariants as file
 use Rattle.disk_calls.specs.Disk.{DiskState, Image, bytes_of}

@@ -1,5 +1,5 @@
 -- The catalog as a list of names, and what is asked of it.
-use Rattle.std.specs.Prelude.{◌==◌, ℕ, suc, ◌+◌, Bool, true, false, List, [], ◌∷◌, map, length, Option, Some, None, option_map, option_and_then, unwrap_or, flat_map, if◌then◌else◌}
+use Rattle.std.specs.Prelude.{◌==◌, ℕ, Bool, false, List, [], ◌∷◌, map, Option, Some, None, is_some, option_and_then, unwrap_or, flat_map, if◌then◌else◌}
 use Rattle.std.specs.Cmp.Lexicographic.{pointwise}
 use Rattle.std.specs.Map.{lookup}
 use Rattle.stream_catalog.specs.declared.holder.Holder.{Holder}
@@ -40,6 +40,10 @@ streams names = map (λ p. p.0) (live names)
 -- the place of a stream in its super stream, else 0
 abbrev pub part_index : ℕ → Names → ℕ
 part_index number names = unwrap_or (lookup (λ n. number == n) (live names)) 0
+
+-- a live stream has the number
+abbrev pub is_live : ℕ → Names → Bool
+is_live number names = is_some (lookup (λ n. number == n) (live names))
 
 abbrev pub number_of : Holder → Option ℕ
 number_of (holds.Stream number) = Some number

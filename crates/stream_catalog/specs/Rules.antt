@@ -1,16 +1,15 @@
 -- What the rules of the catalog make of a change that is asked for: the change that happens, or why it is refused; and what each change makes of the list of names.
-use Rattle.std.specs.Prelude.{◌==◌, ℕ, zero, suc, ◌+◌, ◌-◌, ◌^◌, Bool, true, false, not, ◌&&◌, ◌||◌, nat_lt, nat_le, List, [], ◌∷◌, ◌++◌, length, filter, Option, Some, None, is_some, unwrap_or, Result, Ok, Err, if◌then◌else◌}
+use Rattle.std.specs.Prelude.{◌==◌, ℕ, ◌+◌, ◌-◌, ◌^◌, Bool, true, false, not, ◌&&◌, nat_lt, nat_le, List, [], ◌∷◌, ◌++◌, length, filter, Option, Some, None, is_some, unwrap_or, Result, Ok, Err, if◌then◌else◌}
 use Rattle.std.specs.List.{list_any, list_all}
 use Rattle.stream_catalog.specs.declared.holder.Holder.{Holder}
 use Rattle.stream_catalog.specs.declared.holder.Holder.TheVariants as holds
 use Rattle.stream_catalog.specs.declared.change.Change.{Change}
 use Rattle.stream_catalog.specs.declared.change.ChangeKind.{ChangeKind}
 use Rattle.stream_catalog.specs.declared.change.ChangeKind.TheVariants as kind
-use Rattle.stream_catalog.specs.declared.fault.Why.{Why}
 use Rattle.stream_catalog.specs.declared.fault.Why.TheVariants as why
 use Rattle.stream_catalog.specs.declared.fault.CatalogFault.{CatalogFault}
 use Rattle.stream_catalog.specs.declared.fault.CatalogFault.TheVariants.{Missing, Exists, Refused}
-use Rattle.stream_catalog.specs.Names.{Names, same_name, holder_of, live}
+use Rattle.stream_catalog.specs.Names.{Names, same_name, holder_of, live, streams}
 
 -- ---- names that are asked for
 
@@ -136,13 +135,13 @@ without first count list = filter (λ e. not (is_among first count (first_of e.1
 -- partitions with consecutive numbers, from a place on
 abbrev pub part_names : ℕ → ℕ → List (Option (List ℕ)) → List (List ℕ × Holder)
 part_names first place [] = []
-part_names first place (part ∷ parts) = (named part, holds.Part (first + place) place) ∷ part_names first (suc place) parts
+part_names first place (part ∷ parts) = (named part, holds.Part (first + place) place) ∷ part_names first (place + 1) parts
 
--- a stream comes behind all names; a super stream and its partitions do; a stream goes, or a super stream and its partitions
+-- a stream comes behind all names, or the partitions of a super stream and then its own name; a stream goes, or a super stream and its partitions
 abbrev pub changed_by : ChangeKind → Change → Names → Names
 changed_by kind.Create c names = record { list = names.list ++ (named c.name, holds.Stream c.number) ∷ []; last = c.number }
-changed_by kind.CreateSuper c names = record { list = names.list ++ (named c.name, holds.Super c.number c.parts c.keys) ∷ part_names c.number 0 c.parts; last = c.number + length c.parts - 1 }
-changed_by kind.Delete c names = record { list = without c.number 1 names.list; last = names.last }
+changed_by kind.CreateSuper c names = record { list = (names.list ++ part_names c.number 0 c.parts) ++ (named c.name, holds.Super c.number c.parts c.keys) ∷ []; last = c.number + length c.parts - 1 }
+changed_by kind.Delete c names = record { list = without c.number (count_of (holder_at c.name names)) names.list; last = names.last }
 changed_by kind.DeleteSuper c names = record { list = without c.number (count_of (holder_at c.name names)) names.list; last = names.last }
 
 abbrev pub changed : Change → Names → Names
@@ -153,11 +152,12 @@ abbrev pub after : Result Change CatalogFault → Names → Names
 after (Ok c) names = changed c names
 after (Err fault) names = names
 
--- so many numbers, from the first on
-abbrev pub numbers_from : ℕ → ℕ → List ℕ
-numbers_from first zero = []
-numbers_from first (suc count) = first ∷ numbers_from (suc first) count
+-- the numbers of the live streams that go with a super stream
+abbrev pub numbers_going : Option Holder → List ℕ → List ℕ
+numbers_going None numbers = []
+numbers_going (Some (holds.Stream number)) numbers = []
+numbers_going (Some (holds.Part number place)) numbers = []
+numbers_going (Some (holds.Super first parts keys)) numbers = filter (λ n. is_among first (length parts) n) numbers
 
--- the numbers of the streams that go with a super stream
 abbrev pub numbers_gone : Change → Names → List ℕ
-numbers_gone c names = numbers_from c.number (count_of (holder_at c.name names))
+numbers_gone c names = numbers_going (holder_at c.name names) (streams names)

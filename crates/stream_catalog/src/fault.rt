@@ -1,5 +1,6 @@
 //! Why the catalog is not read or changed.
 
+use gated_words::GateFault;
 use std::alloc::AllocError;
 use thiserror::Error;
 
@@ -53,5 +54,20 @@ impl From<AllocError> for CatalogFault {
 
     fn from(_: AllocError) -> CatalogFault {
         CatalogFault::Memory
+    }
+}
+
+impl From<GateFault> for CatalogFault {
+    ghost use Rattle.std.specs.Prelude.{◌≡◌};
+    ghost use Rattle.stream_catalog.specs.Gates.{fault_of};
+
+    ghost from_gives = { λ fault e. e ≡ fault_of fault };
+
+    fn from(fault: GateFault) -> CatalogFault {
+        match fault {
+            GateFault::Disk => CatalogFault::Disk,
+            GateFault::Damaged { place } => CatalogFault::Damaged { place },
+            GateFault::Memory => CatalogFault::Memory,
+        }
     }
 }

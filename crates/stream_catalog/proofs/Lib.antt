@@ -1,0 +1,9 @@
+pub mod Entries
+pub mod Fresh
+pub mod Numbers
+pub mod ReadLoop
+pub mod ChangeLaws
+pub mod OnDisk
+pub mod Recording
+pub mod Applying
+pub mod Staying
