@@ -24,7 +24,7 @@ def head_of(text, name):
                 brackets += 1 if sign == "[" else -1
             elif sign == "{":
                 before = text[match.start():end]
-                if depth == 0 and re.search(r"(ensures|requires)\s*\w*\s*$", before) is None:
+                if depth == 0 and re.search(r"(ensures|requires)\*?\s*\w*\s*$", before) is None:
                     break
                 depth += 1
             elif sign == "}":
