@@ -1,21 +1,18 @@
 -- What calls say of what is tracked of a log.
-use Rattle.std.proofs.Common.{◌≡◌, ℕ, zero, suc, ◌+◌, ◌-◌, ◌<◌, List, [], ◌∷◌, ◌++◌, map, length, take, drop, get_or, slice_get, IsSomeAnd, IfSome, subst, append_assoc, arith, Option, Some, None, Result, Ok, Err, OnOk, sym, ap, ◌∙◌}
+use Rattle.std.proofs.Common.{◌≡◌, ℕ, zero, suc, ◌+◌, ◌-◌, ◌<◌, List, [], ◌∷◌, ◌++◌, map, length, take, drop, get_or, slice_get, IfSome, subst, append_assoc, arith, Option, Some, None, Result, Ok, Err, OnOk, sym, ap, ◌∙◌}
 use Rattle.std.specs.List.{All, HoldsAt, flat_map, fold}
 use Rattle.std.specs.Option.{option_map}
 use Rattle.std.proofs.lemmas.Grind.{flat_map-append}
 use Rattle.std.proofs.lemmas.List.{append-nil, map-append, take_rest, take-append-drop, take_more}
 use Rattle.std.proofs.lemmas.List.Elements.{All-head, All-tail, All-take, All-more, All-from_recursion, at_read}
 use Rattle.std.proofs.Math.Seq.{drop-cons}
-use Rattle.chunk_format.specs.declared.entry.Entry.{Entry}
-use Rattle.chunk_format.specs.declared.entry.Entry.TheVariants.{Simple}
 use Rattle.chunk_format.specs.declared.chunk.ChunkKind.TheVariants.{Snapshot}
 use Rattle.chunk_format.specs.Tags.{SnapshotEntry, snapshot_bytes, IsSnapshot, SpellsSnapshot}
-use Rattle.chunk_format.specs.Chunks.{IsChunk}
+use Rattle.chunk_format.specs.Chunks.{IsChunk, IsOneSimple}
 use Rattle.chunk_format.specs.Logs.{Truthful}
 use Rattle.chunk_format.specs.ByName.{snapshot_items, snapshot_body, snapshot_entry_of}
 use Rattle.chunk_format.proofs.SnapshotLaws.{items_right}
 use Rattle.chunk_format.proofs.TruthLaws.{truthful_push}
-use Rattle.chunk_view.specs.Shown.{EntryShown, shown}
 use Rattle.chunk_format.specs.declared.chunk.Chunk.{Chunk}
 use Rattle.chunk_format.specs.ByName.{Greatest, LastStored}
 use Rattle.tracking_state.specs.declared.note.Latest.{Latest}
@@ -85,14 +82,11 @@ pub len_is : (len : ℕ) (sequences : List (List ℕ × Latest)) (offsets : List
     → len ≡ length (snapshot_body log)
 len_is len sequences offsets t log is view tracks = is.0 ∙ ap length (ap body_of view ∙ body_of_log t log tracks)
 
-body_is : (c : Chunk) (r : EntryShown) (body : List ℕ) (offset : ℕ) → c.entries ≡ Simple body ∷ [] → IsSomeAnd (slice_get c.entries 0) (λ entry. r ≡ shown offset entry) → r.body ≡ body
-body_is c r body offset one here = ap (λ (s : EntryShown). s.body) (subst (λ (entries : List Entry). IsSomeAnd (slice_get entries 0) (λ entry. r ≡ shown offset entry)) one here)
-
-pub restored_is : (c snapshot : Chunk) (r : EntryShown) (offset : ℕ) (log : List Chunk) (old new : Tracked) → c ≡ snapshot → All IsChunk log → snapshot.entries ≡ snapshot_entry_of log ∷ []
-    → IsSomeAnd (slice_get c.entries 0) (λ entry. r ≡ shown offset entry) → old ≡ tracked_of [] → ((items : List SnapshotEntry) → SpellsSnapshot r.body items → new ≡ fold noted old items) → new ≡ tracked_of log
-restored_is c snapshot r offset log old new same all one here empty notes =
-    let body : r.body ≡ snapshot_body log = body_is c r (snapshot_body log) offset (ap (λ (x : Chunk). x.entries) same ∙ one) here in
-    notes (snapshot_items log) (items_right log all, body) ∙ ap (λ (t : Tracked). fold noted t (snapshot_items log)) empty ∙ all_noted log
+pub restored_is : (snapshot : Chunk) (body : List ℕ) (log : List Chunk) (old new : Tracked) → All IsChunk log → snapshot.entries ≡ snapshot_entry_of log ∷ []
+    → ((listed : List ℕ) → IsOneSimple snapshot.entries listed → body ≡ listed) → old ≡ tracked_of [] → ((items : List SnapshotEntry) → SpellsSnapshot body items → new ≡ fold noted old items) → new ≡ tracked_of log
+restored_is snapshot body log old new all one here empty notes =
+    let is : body ≡ snapshot_body log = here (snapshot_body log) one in
+    notes (snapshot_items log) (items_right log all, is) ∙ ap (λ (t : Tracked). fold noted t (snapshot_items log)) empty ∙ all_noted log
 
 -- ---- from the last snapshot on
 

@@ -5,3 +5,4 @@ pub mod Tracks
 pub mod Listed
 pub mod Restored
 pub mod Calls
+pub mod StoredParts

@@ -4,6 +4,7 @@
 mod laws;
 mod named;
 mod note;
+mod parts;
 mod said;
 mod tracking;
 

@@ -5,10 +5,10 @@ ghost use Rattle.chunk_format.specs.Tags.{Tag, SpellsTags, DeltaEntry, SpellsDel
 ghost use Rattle.chunk_format.specs.Parts.{snapshot_of};
 ghost use Rattle.tracking_state.specs.Said.{AreOf, Says, SaysOf};
 
+use crate::parts::{body_of_one, trailer_of};
 use chunk_format::{
     ChunkKind, DeltaParts, SnapshotParts, Stored, TagParts, split_delta, split_tag,
 };
-use chunk_view::ChunkView;
 
 /// The name of a trailer's tags, with the greatest of their ids.
 fn newest_tag(trailer: &[u8]) -> Option<TagParts<'_>>
@@ -54,17 +54,16 @@ pub(crate) fn said_by(chunk: &Stored) -> Option<SnapshotParts<'_>>
     ensures right { IfSome result (λ item. IsSnapshot (snapshot_of item)) }
 {
     let header = chunk.header();
-    let view = ChunkView::of_stored(chunk);
     match header.kind {
         ChunkKind::User => {
-            let tag = newest_tag(view.trailer())?;
+            let tag = newest_tag(trailer_of(chunk))?;
             Some(SnapshotParts::Sequence {
                 name: tag.name,
                 first: header.first,
                 id: tag.id,
             })
         }
-        ChunkKind::Delta => said_by_delta(view.entry(0).body),
+        ChunkKind::Delta => said_by_delta(body_of_one(chunk)),
         ChunkKind::Snapshot => None,
     }
 }

@@ -15,9 +15,9 @@ ghost use Rattle.tracking_state.specs.Notes.{noted};
 
 use crate::named::Named;
 use crate::note::{Latest, note_id, note_offset};
+use crate::parts::body_of_one;
 use crate::said::said_by;
 use chunk_format::{ChunkKind, Entry, SnapshotParts, Stored, put_snapshot, split_snapshot};
-use chunk_view::ChunkView;
 use frame_wire::Octets;
 use std::alloc::{AllocError, Global};
 use std::marker::Model;
@@ -168,8 +168,7 @@ impl Tracking {
             ChunkKind::Delta => Ok(true),
             ChunkKind::Snapshot => {
                 let body = self.snapshot_body(alloc)?;
-                let view = ChunkView::of_stored(chunk);
-                Ok(is_same(view.entry(0).body, body.as_slice()))
+                Ok(is_same(body_of_one(chunk), body.as_slice()))
             }
         }
     }
@@ -179,9 +178,7 @@ impl Tracking {
         ensures { (log : List Chunk) → All IsChunk log → snapshot.now.entries ≡ snapshot_entry_of log ∷ [] → IfOk result (λ t. t ≡ tracked_of log) }
     {
         let mut tracking = Tracking::empty(alloc);
-        let _header = snapshot.header();
-        let view = ChunkView::of_stored(snapshot);
-        tracking.note_all(view.entry(0).body)?;
+        tracking.note_all(body_of_one(snapshot))?;
         Ok(tracking)
     }
 
