@@ -3,3 +3,4 @@ pub mod HexText
 pub mod Splits
 pub mod Readings
 pub mod OneOutput
+pub mod OutputReadings

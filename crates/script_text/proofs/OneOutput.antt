@@ -23,10 +23,10 @@ use Rattle.script_text.proofs.Readings.{same_word}
 -- ---- words
 
 -- bytes that are spelled as one text are one
-hex_same : (a b : List ℕ) → IsGiven a → IsGiven b → encode_lower a ≡ encode_lower b → a ≡ b
+pub hex_same : (a b : List ℕ) → IsGiven a → IsGiven b → encode_lower a ≡ encode_lower b → a ≡ b
 hex_same a b p q e = sym (one_reading (encode_lower a) a b (reads_back (encode_lower a) a p refl) q e)
 
-two_bytes : (n : ℕ) → n < 2 ^ 16 → IsGiven (u16_bytes n)
+pub two_bytes : (n : ℕ) → n < 2 ^ 16 → IsGiven (u16_bytes n)
 unfolding u16_bytes
 two_bytes n fits = (omega arith, All-from_recursion (λ (b : ℕ). b < 2 ^ 8) (u16_bytes n) (omega arith, (omega arith, tt)))
 
@@ -88,10 +88,10 @@ kind_same : (a b : MessageKind) → kind_word a ≡ kind_word b → a ≡ b
 kind_same a b e =
     kind_by a b (sym (kind_size_is a) ∙ ap length e ∙ kind_size_is b) (sym (kind_first_is a) ∙ ap (λ (l : List ℕ). get_or l 0 0) e ∙ kind_first_is b)
 
-no_space : (word : List ℕ) → AllByRecursion (λ (b : ℕ). b ≢ space) word → Lacks space word
+pub no_space : (word : List ℕ) → AllByRecursion (λ (b : ℕ). b ≢ space) word → Lacks space word
 no_space word all = All-from_recursion (λ (b : ℕ). b ≢ space) word all
 
-kind_lacks : (kind : MessageKind) → Lacks space (kind_word kind)
+pub kind_lacks : (kind : MessageKind) → Lacks space (kind_word kind)
 kind_lacks kinds.Stop = no_space (codes "stop") (omega arith, (omega arith, (omega arith, (omega arith, tt))))
 kind_lacks kinds.Stopped = no_space (codes "stopped") (omega arith, (omega arith, (omega arith, (omega arith, (omega arith, (omega arith, (omega arith, tt)))))))
 kind_lacks kinds.Open = no_space (codes "open") (omega arith, (omega arith, (omega arith, (omega arith, tt))))
@@ -100,13 +100,13 @@ kind_lacks kinds.Shape = no_space (codes "shape") (omega arith, (omega arith, (o
 kind_lacks kinds.Ask = no_space (codes "ask") (omega arith, (omega arith, (omega arith, tt)))
 kind_lacks kinds.Append = no_space (codes "append") (omega arith, (omega arith, (omega arith, (omega arith, (omega arith, (omega arith, tt))))))
 
-ending_first : Ending → ℕ
+pub ending_first : Ending → ℕ
 ending_first PeerEnded = 101
 ending_first ClosedByPeer = 99
 ending_first (ClosedByUs code) = 117
 ending_first Silent = 115
 
-ending_first_is : (how : Ending) → get_or (ending_words how) 0 0 ≡ ending_first how
+pub ending_first_is : (how : Ending) → get_or (ending_words how) 0 0 ≡ ending_first how
 unfolding ending_first
 ending_first_is PeerEnded = refl
 ending_first_is ClosedByPeer = refl
@@ -159,7 +159,7 @@ down_same s m t n fs fm ft fn h =
 -- ---- lines
 
 -- the first two bytes of a line
-lead : OutputLine → ℕ
+unfoldable pub lead : OutputLine → ℕ
 lead (Sent connection frame) = 62 * 256 + 32
 lead (Bye connection how) = 98 * 256 + 121
 lead (Committed stream chunk) = 107 * 256 + 32
@@ -174,7 +174,7 @@ lead (Refused code) = 110 * 256 + 111
 lead End = 101 * 256 + 110
 lead (Bad number) = 98 * 256 + 97
 
-lead_is : (line : OutputLine) → get_or (output_words line) 0 0 * 256 + get_or (output_words line) 1 0 ≡ lead line
+pub lead_is : (line : OutputLine) → get_or (output_words line) 0 0 * 256 + get_or (output_words line) 1 0 ≡ lead line
 unfolding lead
 lead_is (Sent connection frame) = refl
 lead_is (Bye connection how) = refl
@@ -242,7 +242,7 @@ same_lines (Bad n) (Bad m) p q e = ap Bad (decimal_injective n m p q (ap (drop 4
 same_lines l m p q e =
     let leads : lead l ≡ lead m = sym (lead_is l) ∙ ap (λ (x : List ℕ). get_or x 0 0 * 256 + get_or x 1 0) e ∙ lead_is m in absurd (omega (arith, leads))
 
-before_feed : (a b : List ℕ) → a ++ line_feed ∷ [] ≡ b ++ line_feed ∷ [] → a ≡ b
+pub before_feed : (a b : List ℕ) → a ++ line_feed ∷ [] ≡ b ++ line_feed ∷ [] → a ≡ b
 before_feed a b e =
     let lengths = ap length e in
     let len : length a ≡ length b = omega (arith, lengths, length-append a (line_feed ∷ []), length-append b (line_feed ∷ [])) in

@@ -108,7 +108,7 @@ pub enum OutputLine {
 
 impl MessageKind {
     /// The word of a kind.
-    fn word(self) -> &'static str
+    pub(crate) fn word(self) -> &'static str
         ensures { result.now ≡ kind_word self }
     {
         match self {

@@ -5,13 +5,14 @@ ghost use Rattle.script_text.specs.Words.{space, line_feed};
 ghost use Rattle.script_text.specs.Script.{ReadsWords, Spells};
 
 use crate::word::{
-    four_numbers, is_name, number_and_words, read_hex, read_number, three_numbers, two_numbers,
+    four_numbers, is_name, number_and_hex, number_and_words, read_number, three_numbers,
+    two_numbers,
 };
 use frame_wire::Octets;
 use std::alloc::{AllocError, Global};
 
 /// The most bytes of a line before its line feed.
-pub(crate) const LONGEST_LINE: usize = 4_194_304;
+pub const LONGEST_LINE: usize = 4_194_304;
 
 /// How many images of a disk there are to choose from.
 const IMAGES: u64 = 4;
@@ -104,7 +105,7 @@ pub enum ScriptLine {
 /// Why a line was not read.
 #[derive(Clone, Copy, Debug, PartialEq, Eq)]
 pub enum LineFault {
-    /// It is no line of the language.
+    /// It is no line of the language, or none that can come now.
     Bad,
     Memory,
 }
@@ -166,15 +167,9 @@ fn read_prepare(alloc: Global, words: &[u8]) -> Result<Option<ScriptLine>, Alloc
 fn read_give(alloc: Global, words: &[u8]) -> Result<Option<ScriptLine>, AllocError>
     ensures { IfOk result (ReadsWords (99 ∷ space ∷ words.now)) }
 {
-    match number_and_words(words) {
+    match number_and_hex(alloc, words)? {
         None => Ok(None),
-        Some((connection, word)) => {
-            let found = read_hex(alloc, word)?;
-            match found {
-                None => Ok(None),
-                Some(bytes) => Ok(Some(ScriptLine::Give { connection, bytes })),
-            }
-        }
+        Some((connection, bytes)) => Ok(Some(ScriptLine::Give { connection, bytes })),
     }
 }
 

@@ -11,7 +11,7 @@ use std::alloc::{AllocError, Global};
 use std::str;
 
 /// Where this byte first stands.
-pub(crate) fn find_byte(bytes: &[u8], wanted: u8) -> Option<usize>
+pub fn find_byte(bytes: &[u8], wanted: u8) -> Option<usize>
     ensures { MatchOption result (Lacks wanted bytes.now) (λ k. (k < length bytes.now) × SplitsAt wanted bytes.now (take k bytes.now) (drop (k + 1) bytes.now)) }
 {
     for (k, byte) in bytes.iter().enumerate() {
@@ -147,5 +147,24 @@ pub(crate) fn four_numbers(words: &[u8]) -> Option<(u64, u64, u64, u64)>
             None => None,
             Some((second, third, fourth)) => Some((first, second, third, fourth)),
         },
+    }
+}
+
+/// A number and bytes as hexadecimal text.
+pub(crate) fn number_and_hex(
+    alloc: Global,
+    words: &[u8],
+) -> Result<Option<(u64, Octets)>, AllocError>
+    ensures { IfOk result (λ found. MatchOption found ((n : ℕ) (bytes : List ℕ) → n < 2 ^ 64 → IsGiven bytes → words.now ≡ decimal n ++ space ∷ encode_lower bytes → ⊥) (λ p. (p.0 < 2 ^ 64) × IsGiven p.1 × (words.now ≡ decimal p.0 ++ space ∷ encode_lower p.1))) }
+{
+    match number_and_words(words) {
+        None => Ok(None),
+        Some((number, word)) => {
+            let found = read_hex(alloc, word)?;
+            match found {
+                None => Ok(None),
+                Some(bytes) => Ok(Some((number, bytes))),
+            }
+        }
     }
 }
