@@ -60,7 +60,7 @@ take_one zero (d ∷ cs) c is = let same : d ≡ c = cc is in ap (λ (x : Chunk)
 take_one (suc i) (d ∷ cs) c is = ap (λ (l : List Chunk). d ∷ l) (take_one i cs c is)
 
 -- the first so many chunks end there
-front_end : (segments : List Segment) (kept end : ℕ) → FrontEnds (rows_of segments) kept end → end_of (take kept (all_chunks segments)) ≡ end
+pub front_end : (segments : List Segment) (kept end : ℕ) → FrontEnds (rows_of segments) kept end → end_of (take kept (all_chunks segments)) ≡ end
 front_end segments zero end ends = sym ends
 front_end segments (suc i) end ends =
     let found = row_chunk segments i ends.row ends.is in

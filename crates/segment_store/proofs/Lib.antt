@@ -4,3 +4,7 @@ pub mod Wording
 pub mod Cutting
 pub mod Trimming
 pub mod Beginning
+pub mod Storing
+pub mod Performing
+pub mod Halving
+pub mod Lasting

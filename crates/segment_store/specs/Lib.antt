@@ -4,3 +4,4 @@ pub mod Words
 pub mod Receipts
 pub mod Faults
 pub mod Logs
+pub mod Stores

@@ -5,14 +5,19 @@
 #![tactic(auto)]
 
 mod cut;
+mod ends;
 mod epochs;
 mod fault;
+mod member_store;
 mod receipt;
 mod rows;
 mod segment_log;
+mod store_laws;
 mod write;
 
 pub use epochs::EpochStore;
 pub use fault::StoreFault;
+pub use member_store::MemberStore;
 pub use receipt::Receipt;
 pub use segment_log::SegmentLog;
+pub use store_laws::{jobs_continue_logs, logs_outlast_crashes, stores_stay_backed};

@@ -1,14 +1,16 @@
 //! A log over the segments of a disk.
 
-ghost use Rattle.std.specs.Prelude.{◌≡◌, ◌∷◌, [], List, ℕ, IfOk, IsErrOf, OnOk};
+ghost use Rattle.std.specs.Prelude.{◌≡◌, ◌∷◌, [], List, ℕ, IfOk, IsErrOf, IsTrue, OnOk};
 ghost use Rattle.disk_calls.specs.Disk.{HasCause};
 ghost use Rattle.epoch_coordinator.specs.MemberSteps.{cut_at};
 ghost use Rattle.segment_pairs.specs.Held.{Segment, EachLog, OldOrNew, OutsideLog, all_chunks};
 ghost use Rattle.segment_store.specs.Rows.{grown};
 ghost use Rattle.segment_store.specs.Jobs.{Between};
 ghost use Rattle.segment_store.specs.Logs.{Standing, LogEnds, EndsChunk, NoLog};
+ghost use Rattle.segment_store.specs.Stores.{EndsRise};
 
 use crate::cut::cut_log;
+use crate::ends::has_end;
 use crate::fault::StoreFault;
 use crate::rows::{ChunkAt, log_end};
 use crate::write::write_chunk;
@@ -68,6 +70,15 @@ impl SegmentLog {
         ensures { LogEnds self.now result }
     {
         log_end(&self.rows)
+    }
+
+    /// Whether some chunk of the log ends at an offset, or it is 0. It looks at one chunk for each halving of the log, and
+    /// finds the chunk where ends don't fall.
+    pub fn ends_chunk(&self, end: u64) -> bool
+        ensures found { IsTrue result → EndsChunk self.now end }
+        ensures all { EndsRise self.now.rows → EndsChunk self.now end → IsTrue result }
+    {
+        has_end(&self.rows, end)
     }
 
     /// Writes a chunk that begins where the log ends. It begins a new segment, named by its first offset, exactly where
