@@ -10,9 +10,9 @@ use Rattle.chunk_format.specs.Logs.{Linked, IsLog, epoch_from, last_epoch}
 use Rattle.chunk_format.proofs.LinkLaws.{epoch_past, epoch_grows, epoch_push, linked_front}
 use Rattle.epoch_coordinator.specs.Members.{Leading, MemberState}
 use Rattle.epoch_coordinator.specs.MemberSteps.{reaching, is_majority, commit_from, commit_end}
-use Rattle.member_log.proofs.EndLaws.{ends_rise}
+use Rattle.member_core.proofs.EndLaws.{ends_rise}
 use Rattle.epoch_coordinator.specs.declared.message.Job.{Job}
-use Rattle.member_log.specs.Kept.{LogState, whole}
+use Rattle.member_core.specs.Kept.{LogState, whole}
 use Rattle.member_core.specs.declared.duty.Lead.{Lead}
 use Rattle.member_core.specs.declared.duty.Duty.{Duty}
 use Rattle.member_core.specs.declared.duty.Duty.TheVariants as duties

@@ -13,8 +13,8 @@ use Rattle.epoch_coordinator.specs.declared.message.Job.{Job}
 use Rattle.epoch_coordinator.specs.declared.message.Job.TheVariants as jobs
 use Rattle.epoch_coordinator.specs.Members.{MemberRole, MemberState, Stopped, Follower, Leader, is_stopped}
 use Rattle.epoch_coordinator.specs.MemberSteps.{mail, Took, silent, behind_first, cut_at, wrote, zeros, stamp_at, can_open, after_open}
-use Rattle.member_log.specs.Kept.{LogState, whole, only, with_chunk}
-use Rattle.member_log.proofs.EndLaws.{tail_push}
+use Rattle.member_core.specs.Kept.{LogState, whole, only, with_chunk}
+use Rattle.member_core.proofs.EndLaws.{tail_push}
 use Rattle.member_core.specs.declared.duty.Lead.{Lead}
 use Rattle.member_core.specs.declared.duty.Duty.{Duty}
 use Rattle.member_core.specs.declared.duty.Duty.TheVariants as duties

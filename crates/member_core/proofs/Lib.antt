@@ -1,3 +1,9 @@
+pub mod RunLaws
+pub mod EndLaws
+pub mod CountLaws
+pub mod Keeping
+pub mod Truths
+pub mod Snapshots
 pub mod Sends
 pub mod Holding
 pub mod Commits

@@ -13,7 +13,7 @@ use Rattle.epoch_coordinator.specs.declared.message.Job.TheVariants as jobs
 use Rattle.epoch_coordinator.specs.Tails.{same_tail, tail_of, runs_of}
 use Rattle.epoch_coordinator.specs.Members.{Leading, MemberRole, MemberState, Stopped, Follower, Leader}
 use Rattle.epoch_coordinator.specs.MemberSteps.{behind_first, Took, tail_after, other_members, mail, raise, is_majority, reaching, names_another, epoch_of, is_later_stop}
-use Rattle.member_log.specs.Kept.{LogState, whole}
+use Rattle.member_core.specs.Kept.{LogState, whole}
 use Rattle.member_core.specs.declared.duty.Lead.{Lead}
 use Rattle.member_core.specs.declared.duty.Duty.{Duty}
 use Rattle.member_core.specs.declared.duty.Duty.TheVariants as duties

@@ -9,8 +9,8 @@ ghost use Rattle.member_core.specs.States.{has_majority, commit_over};
 
 use crate::duty::Duty;
 use crate::member::Member;
+use crate::search::{chunk_end, tail_after};
 use chunk_format::Stored;
-use member_log::{chunk_end, tail_after};
 
 /// How many of the ends reach an offset.
 fn reaching(ends: &[u64], end: u64) -> usize

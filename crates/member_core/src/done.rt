@@ -8,16 +8,16 @@ ghost use Rattle.chunk_format.specs.ByName.{snapshot_body, snapshot_entry_of};
 ghost use Rattle.epoch_coordinator.specs.declared.message.Job.TheVariants as jobs;
 ghost use Rattle.epoch_coordinator.specs.Members.{sequence_of};
 ghost use Rattle.epoch_coordinator.specs.MemberSteps.{Took, finished, asks_by, cut_at, wrote, says_stopped, next_job, behind_first, offered};
-ghost use Rattle.member_log.specs.Kept.{GoesBehind};
+ghost use Rattle.member_core.specs.Kept.{GoesBehind};
 ghost use Rattle.member_core.specs.States.{IsOpen, wrote_mail, first_kept, opened_duty};
 
 use crate::duty::{Duty, Lead};
 use crate::member::Member;
+use crate::search::tail_after;
 use crate::send::{appends, copy_runs, one};
 use chunk_format::{Chunk, Stored};
 use epoch_coordinator::{Job, Message, Run, Sent};
 use frame_wire::Row;
-use member_log::tail_after;
 use std::alloc::AllocError;
 
 /// The next chunk that waits is the next job.

@@ -7,15 +7,15 @@ ghost use Rattle.epoch_coordinator.specs.Tails.{tail_of};
 ghost use Rattle.epoch_coordinator.specs.Members.{sequence_of, job_chunks, role_chunks, is_stopped};
 ghost use Rattle.epoch_coordinator.specs.MemberSteps.{restarted, says_stopped, asks, nudged};
 ghost use Rattle.epoch_coordinator.specs.Offers.{since_snapshot};
-ghost use Rattle.member_log.specs.Kept.{bytes_of, plain_count};
+ghost use Rattle.member_core.specs.Kept.{bytes_of, plain_count};
 ghost use Rattle.member_core.specs.States.{told_role, is_open, followed, IsOpen};
 
 use crate::duty::{Duty, Role};
+use crate::member_log::MemberLog;
 use crate::send::one;
 use chunk_format::Stored;
 use epoch_coordinator::{Job, Message, Sent, Tail};
 use frame_wire::Row;
-use member_log::MemberLog;
 use std::alloc::{AllocError, Global};
 use std::marker::Model;
 

@@ -6,16 +6,16 @@ ghost use Rattle.std.specs.Int.RustNames.{FitsSigned};
 ghost use Rattle.epoch_coordinator.specs.declared.message.Message.TheVariants as messages;
 ghost use Rattle.epoch_coordinator.specs.Members.{is_stopped};
 ghost use Rattle.epoch_coordinator.specs.MemberSteps.{taken, heard, names_another, epoch_of, is_later_stop, is_another, mail, raise, stamp_at, after_stop, can_open, after_open, after_follow, after_shape, goes_on, after_append, after_ask};
-ghost use Rattle.member_log.specs.Kept.{GoesBehind};
+ghost use Rattle.member_core.specs.Kept.{GoesBehind};
 ghost use Rattle.member_core.specs.States.{answer_by, state_by, is_heard, kept_of, with_end, next_mail, follows};
 
 use crate::duty::{Duty, Lead};
 use crate::member::Member;
+use crate::search::contains;
 use crate::send::{copy_runs, one};
 use chunk_format::Stored;
 use epoch_coordinator::{Job, Message, Run, Sent, Tail};
 use frame_wire::Row;
-use member_log::contains;
 use std::alloc::{AllocError, Global};
 
 /// What came of a message.

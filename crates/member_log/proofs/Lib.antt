@@ -1,6 +1,0 @@
-pub mod RunLaws
-pub mod EndLaws
-pub mod CountLaws
-pub mod Keeping
-pub mod Truths
-pub mod Snapshots

@@ -1,9 +1,0 @@
-use Rattle.std.proofs.Common.{◌-◌, length}
-use Rattle.member_log.specs.Kept.{IsKnown}
-use Rattle.member_log.proofs.known.Known.catch_up.Given as goal
-
-abbrev pub invariant-chunks : goal.invariant-chunks
-invariant-chunks l = IsKnown l.chunks l.self.count l.self.tracking
-
-abbrev pub decreases-chunks : goal.decreases-chunks
-decreases-chunks l = length l.chunks - l.self.count
