@@ -1,0 +1,9 @@
+pub mod Growing
+pub mod Truncated
+pub mod Matched
+pub mod Stepping
+pub mod Heading
+pub mod Finishing
+pub mod Running
+pub mod Indexed
+pub mod Seeking
