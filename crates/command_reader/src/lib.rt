@@ -2,6 +2,7 @@
 #![tactic(auto)]
 
 mod laws;
+mod pending;
 mod reader;
 
 pub use laws::{answers_are_of_the_bytes, the_bytes_alone_count};

@@ -1,11 +1,11 @@
-ghost use Rattle.std.specs.Prelude.{◌≡◌, Ok, None, OnOk, OnErr, IfOk, IfSome};
+ghost use Rattle.std.specs.Prelude.{◌≡◌, ◌↔◌, Ok, None, IsTrue, OnOk, OnErr, IfOk, IfSome};
 ghost use Rattle.frame_wire.specs.Frames.{BeginsFrame};
 ghost use Rattle.command_reader.specs.States.{ReaderState, IsEnded, Takes, Gives, new_reader};
 ghost use Rattle.command_reader.specs.declared.reader.Next.TheVariants.{Unspelt};
 
+use crate::pending::{Front, Pending};
 use command_all::{Command, decode_command};
 use command_fields::{DecodeError, DecodeFault};
-use frame_wire::{Cutter, Front};
 use std::alloc::{AllocError, Global};
 use std::marker::Model;
 
@@ -33,7 +33,7 @@ pub enum Next {
 #[derive(Debug, Drop)]
 pub struct CommandReader {
     alloc: Global,
-    cutter: Cutter,
+    pending: Pending,
     /// The first wrong field of the frame in front, once it was found.
     unspelt: Option<DecodeFault>,
 }
@@ -45,9 +45,9 @@ impl Model for CommandReader {
 
     ghost Value = { ReaderState };
 
-    ghost view = { λ r. record { max = r.cutter.max; rest = r.cutter.rest; unspelt = r.unspelt } };
+    ghost view = { λ r. record { max = r.pending.max; rest = r.pending.rest; unspelt = r.unspelt } };
 
-    ghost invariant = { λ r. (r.cutter.max < 2 ^ 32) × IfSome r.unspelt (λ fault. BeginsUnspelt r.cutter.max r.cutter.rest fault) };
+    ghost invariant = { λ r. (r.pending.max < 2 ^ 32) × IfSome r.unspelt (λ fault. BeginsUnspelt r.pending.max r.pending.rest fault) };
 }
 
 impl CommandReader {
@@ -57,7 +57,7 @@ impl CommandReader {
     {
         CommandReader {
             alloc,
-            cutter: Cutter::new(alloc, max),
+            pending: Pending::new(alloc, max),
             unspelt: None,
         }
     }
@@ -70,10 +70,34 @@ impl CommandReader {
         ensures ended { IsEnded self.old → result ≡ Ok tt }
         ensures err { OnErr result (self.new ≡ self.old) }
     {
-        if self.unspelt.is_some() {
+        if self.pending.is_short() {
+            return self.keep(piece);
+        }
+        if self.is_ended() {
             return Ok(());
         }
-        self.cutter.feed(piece)
+        self.keep(piece)
+    }
+
+    /// Keeps the next piece.
+    #[inline]
+    fn keep(&mut self, piece: &[u8]) -> Result<(), AllocError>
+        requires { ¬ IsEnded self.old }
+        ensures taken { OnOk result (Takes self.old piece.now self.new) }
+        ensures ended { IsEnded self.old → result ≡ Ok tt }
+        ensures err { OnErr result (self.new ≡ self.old) }
+    {
+        self.pending.push(piece)
+    }
+
+    /// Whether no more commands come.
+    fn is_ended(&self) -> bool
+        ensures { IsTrue result ↔ IsEnded self.now }
+    {
+        match self.unspelt {
+            Some(_) => true,
+            None => matches!(self.pending.front(), Front::TooLarge { .. }),
+        }
     }
 
     /// Gives what stands next. Memory is wanted for a command alone, and want of it leaves the reader as it was: the next
@@ -84,17 +108,33 @@ impl CommandReader {
         ensures stays { IfSome self.old.unspelt (λ fault. result ≡ Ok (Unspelt fault)) }
         ensures err { OnErr result (BeginsFrame self.old.max self.old.rest × (self.old.unspelt ≡ None) × (self.new ≡ self.old)) }
     {
+        if self.pending.is_short() {
+            return Ok(Next::More);
+        }
+        self.read_front()
+    }
+
+    /// Gives what stands next, by the bytes in front.
+    fn read_front(&mut self) -> Result<Next, AllocError>
+        ensures given { IfOk result (λ answer. Gives self.old answer self.new) }
+        ensures stays { IfSome self.old.unspelt (λ fault. result ≡ Ok (Unspelt fault)) }
+        ensures err { OnErr result (BeginsFrame self.old.max self.old.rest × (self.old.unspelt ≡ None) × (self.new ≡ self.old)) }
+    {
         if let Some(fault) = self.unspelt {
             return Ok(Next::Unspelt { fault });
         }
-        let body = match self.cutter.front() {
-            Front::More => return Ok(Next::More),
+        let body = match self.pending.front() {
+            Front::Short { wanted } => {
+                self.pending.wait(wanted);
+                return Ok(Next::More);
+            }
             Front::TooLarge { size } => return Ok(Next::TooLarge { size }),
             Front::Frame { body } => body,
         };
+        let len = body.len();
         match decode_command(self.alloc, body) {
             Ok(command) => {
-                self.cutter.next();
+                self.pending.take(len);
                 Ok(Next::Command(command))
             }
             Err(DecodeError::Fault(fault)) => {

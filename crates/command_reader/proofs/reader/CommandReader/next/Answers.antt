@@ -1,17 +1,12 @@
-use Rattle.std.proofs.Common.{Some, ap, subst}
-use Rattle.command_all.specs.Reading.{BeginsUnspelt}
-use Rattle.command_reader.specs.States.{ReaderState}
-use Rattle.command_reader.proofs.Asks.{gives_command, none_of, unspelt_front}
+use Rattle.std.proofs.Common.{refl}
+use Rattle.command_reader.proofs.Asks.{short_unspelt, none_left}
 use Rattle.command_reader.proofs.reader.CommandReader.next.Goals as goal
 
-pub invariant_of-self-in-Err-Fault : goal.invariant_of-self-in-Err-Fault
-invariant_of-self-in-Err-Fault c = (c.self.invariant.0, unspelt_front c.self.inside.cutter.max c.self.inside.cutter.rest c.in-Frame.body.now c.in-Err-Fault.fault c.in-Frame.ensures (rw c.in-Err-Fault.field-0-is at c.in-Err-Fault.ensures.told))
+pub returns-then-is_short-clause-given : goal.returns-then-is_short-clause-given
+returns-then-is_short-clause-given c =
+    let here = short_unspelt c.self.inside.pending c.self.inside.unspelt c.args.self.now c.self.invariant.0 c.self.invariant.1 c.self.view_is (c.is_short.ensures c.if-is_short.true) in
+    (here.0, here.1, refl)
 
-pub returns-in-Ok-clause-given : goal.returns-in-Ok-clause-given
-returns-in-Ok-clause-given c =
-    gives_command c.self.inside.cutter c.next.new.self c.next.result c.in-Frame.body.now c.in-Ok.command c.self.inside.unspelt c.args.self.now c.self.invariant.0 c.self.view_is (none_of c.self.inside.unspelt c.in_default.not-Some) c.in-Frame.ensures c.in-Ok.ensures.found c.next.ensures
-
-pub returns-in-Err-Fault-clause-given : goal.returns-in-Err-Fault-clause-given
-returns-in-Err-Fault-clause-given c =
-    let here = unspelt_front c.self.inside.cutter.max c.self.inside.cutter.rest c.in-Frame.body.now c.in-Err-Fault.fault c.in-Frame.ensures (rw c.in-Err-Fault.field-0-is at c.in-Err-Fault.ensures.told) in
-    (subst (λ (s : ReaderState). BeginsUnspelt s.max s.rest c.in-Err-Fault.fault) c.self.view_is here, ap (λ (s : ReaderState). record { max = s.max; rest = s.rest; unspelt = Some c.in-Err-Fault.fault }) c.self.view_is)
+pub returns-then-is_short-clause-stays : goal.returns-then-is_short-clause-stays
+returns-then-is_short-clause-stays c =
+    none_left c.args.self.now.unspelt _ (short_unspelt c.self.inside.pending c.self.inside.unspelt c.args.self.now c.self.invariant.0 c.self.invariant.1 c.self.view_is (c.is_short.ensures c.if-is_short.true)).0
