@@ -12,3 +12,4 @@ pub mod Counting
 pub mod Refusing
 pub mod ViewMoves
 pub mod Ends
+pub mod Waiting

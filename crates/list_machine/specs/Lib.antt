@@ -17,3 +17,4 @@ pub mod Leaders
 pub mod Counting
 pub mod Wrongs
 pub mod Joining
+pub mod Waits

@@ -3,6 +3,9 @@
 ghost use Rattle.std.specs.Prelude.{List, [], ◌∷◌, Option, ◌++◌};
 ghost use Rattle.command_all.specs.declared.command.Command.{Command};
 ghost use Rattle.script_text.specs.declared.output.Ending.{Ending};
+ghost use Rattle.script_text.specs.declared.output.OutputLine.TheVariants.{LogDown};
+ghost use Rattle.list_machine.specs.Transcripts.{InspectsKept};
+ghost use Rattle.list_machine.specs.Waits.{HasNoRun, log_to, inspected_as};
 ghost use Rattle.list_machine.specs.Streams.{waiting, active, Stream};
 ghost use Rattle.list_machine.specs.Machines.{fresh, idle};
 ghost use Rattle.list_machine.specs.Steps.{committed, sent, handled, ended};
@@ -55,4 +58,26 @@ pub fn nothing_else_is_written()
     ensures frame { (s : Stream) (command : Command) → HasNoStep (machine_of s ended_connection idle) (sent 1 command) }
     ensures end { (s : Stream) (how : Ending) → HasNoStep (machine_of s ended_connection idle) (ended 1 how) }
     ensures handling { (s : Stream) (command : Command) (answer : Option Command) → HasNoStep (machine_of s ended_connection idle) (handled 1 command answer) }
+{}
+
+/// No run of the machine with nothing goes on from one written out so: by a chunk out of its place, twice, or of a lower
+/// epoch; by a row whose id stands already or falls; or, behind the end of a connection, by a frame on it, a command of it
+/// or another end. It does nothing.
+pub fn wrong_runs_are_none()
+    ensures out_of_place { HasNoRun (a_stream_made ++ committed 1 (chunk_of 1 5 (item 1 97)) ∷ []) }
+    ensures twice { HasNoRun (a_stream_made ++ committed 1 opening ∷ []) }
+    ensures lower_epoch { HasNoRun (the_worked_run ++ committed 1 (chunk_of 1 3 (item 2 98)) ∷ []) }
+    ensures tag_twice { HasNoRun (the_worked_run ++ committed 1 (chunk_of 3 3 (item 1 97)) ∷ []) }
+    ensures tag_falls { HasNoRun (the_worked_run ++ committed 1 (chunk_of 3 3 (item 0 96)) ∷ []) }
+    ensures frame { (command : Command) → HasNoRun (the_worked_run ++ sent 1 command ∷ []) }
+    ensures handling { (command : Command) (answer : Option Command) → HasNoRun (the_worked_run ++ handled 1 command answer ∷ []) }
+    ensures end { (how : Ending) → HasNoRun (the_worked_run ++ ended 1 how ∷ []) }
+{}
+
+/// Of three members, an inspection is right where two hold what the commit lines say, or one does and one is down; it is
+/// wrong where one holds it and none is down. It does nothing.
+pub fn inspections_are_told_apart()
+    ensures held { InspectsKept (inspected_as (log_to 1 1 ∷ log_to 2 1 ∷ log_to 3 0 ∷ [])) }
+    ensures down { InspectsKept (inspected_as (log_to 1 1 ∷ LogDown 1 2 ∷ log_to 3 0 ∷ [])) }
+    ensures lost { InspectsKept (inspected_as (log_to 1 1 ∷ log_to 2 0 ∷ log_to 3 0 ∷ [])) → ⊥ }
 {}

@@ -11,7 +11,8 @@ ghost use Rattle.list_machine.specs.Streams.{Stream, Subscription, no_stream};
 ghost use Rattle.list_machine.specs.Moves.{Move, StreamRun};
 ghost use Rattle.list_machine.specs.Machines.{Machine, empty_machine};
 ghost use Rattle.list_machine.specs.Steps.{Event, committed, ended, MachineStep, MachineRun, moves_at};
-ghost use Rattle.list_machine.specs.Transcripts.{CommitLines};
+ghost use Rattle.list_machine.specs.Transcripts.{Transcript, CommitLines};
+ghost use Rattle.list_machine.specs.Waits.{LinesWait, InspectsItsList};
 ghost use Rattle.list_machine.specs.Discipline.{Disciplined, DisciplinedRun};
 ghost use Rattle.list_machine.specs.Laws.{IsNotOf, RowsRight, ExactlyOnce, DeliversRun, ConfirmedBy, tally_of, no_tally, Tallied};
 
@@ -54,4 +55,17 @@ pub fn commit_lines_are_commits()
 /// It does nothing.
 pub fn nothing_comes_behind_the_end()
     ensures { (before behind : List Event) (c : ℕ) (how : Ending) (old new : Machine) → MachineRun old (before ++ ended c how ∷ behind) new → AllByRecursion (IsNotOf c) behind }
+{}
+
+/// Where a line is read, each command that was read before it is handled, each answer is written, and each connection that
+/// was to end has ended; so too in a transcript, whose events are a run. It does nothing.
+pub fn lines_wait_for_answers()
+    ensures runs { (events : List Event) (old new : Machine) → MachineRun old events new → LinesWait old events new }
+    ensures transcripts { (taken given : List ℕ) (t : Transcript taken given) → MachineRun empty_machine t.events t.machine × LinesWait empty_machine t.events t.machine }
+{}
+
+/// The commit lines with which an inspection of a stream is compared are the list that the stream has when it is inspected.
+/// It does nothing.
+pub fn inspections_look_at_the_list()
+    ensures { (number : ℕ) (before behind : List Event) (new : Machine) → MachineRun empty_machine (before ++ behind) new → InspectsItsList number before behind new }
 {}
