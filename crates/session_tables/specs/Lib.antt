@@ -1,1 +1,4 @@
 pub mod Beating
+pub mod Publishing
+pub mod Subscribing
+pub mod Opening
