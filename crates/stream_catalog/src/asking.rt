@@ -55,8 +55,9 @@ fn has_room(listed: &Listed, limit: u32, count: usize) -> bool
     live <= limit && count <= limit - live && count < 4_294_967_296 - listed.last() as usize
 }
 
-/// A stream that is to come.
-pub(crate) fn ask_create(
+/// A stream of a name that is to come, where there may be at most so many live streams. It fails by the rules in this order:
+/// `Refused(Name)`, `Exists`, `Refused(Streams)`; or for want of memory.
+pub fn ask_create(
     alloc: Global,
     listed: &Listed,
     limit: u32,
@@ -82,8 +83,9 @@ pub(crate) fn ask_create(
     })
 }
 
-/// A super stream that is to come.
-pub(crate) fn ask_create_super(
+/// A super stream of partitions with binding keys that is to come. It fails by the rules in this order: `Refused(Name)`,
+/// `Refused(Parts)`, `Exists`, `Refused(Streams)`; or for want of memory.
+pub fn ask_create_super(
     alloc: Global,
     listed: &Listed,
     limit: u32,
@@ -130,8 +132,9 @@ fn deletion(alloc: Global, kind: ChangeKind, number: u32, name: &Text) -> Result
     })
 }
 
-/// A stream that is to go.
-pub(crate) fn ask_delete(
+/// A stream that is to go. It fails by the rules in this order: `Missing`, also for the name of a super stream,
+/// `Refused(InSuper)`; or for want of memory.
+pub fn ask_delete(
     alloc: Global,
     listed: &Listed,
     name: &Text,
@@ -155,8 +158,8 @@ pub(crate) fn ask_delete(
     }
 }
 
-/// A super stream that is to go.
-pub(crate) fn ask_delete_super(
+/// A super stream that is to go, with its partitions. It fails by the rules with `Missing`; or for want of memory.
+pub fn ask_delete_super(
     alloc: Global,
     listed: &Listed,
     name: &Text,

@@ -16,8 +16,10 @@ mod names;
 mod reading;
 mod rules;
 
+pub use asking::{ask_create, ask_create_super, ask_delete, ask_delete_super};
 pub use catalog::Catalog;
 pub use change::{Change, ChangeKind};
 pub use fault::{CatalogFault, Why};
 pub use holder::Holder;
 pub use laws::{catalogs_stay_backed, changes_are_lawful};
+pub use listed::Listed;

@@ -1,7 +1,7 @@
 //! The catalog in memory: names, and the live streams by number.
 
 ghost use Rattle.std.specs.Prelude.{◌≡◌, ◌++◌, ◌∷◌, [], ◌<◌, true, length, filter, if◌then◌else◌, OnOk, OnErr, IfOk};
-ghost use Rattle.stream_catalog.specs.Names.{Names, is_live, find, parts, route, routed, is_key, part_index, same_name, streams, live};
+ghost use Rattle.stream_catalog.specs.Names.{Names, no_names, is_live, find, parts, route, routed, is_key, part_index, same_name, streams, live};
 ghost use Rattle.stream_catalog.specs.Rules.{changed, is_among, numbers_going};
 ghost use Rattle.stream_catalog.specs.InHand.{streams_without};
 ghost use Rattle.std.specs.Option.{option_copied};
@@ -17,9 +17,10 @@ use frame_wire::{Row, Text};
 use std::alloc::{AllocError, Global};
 use std::marker::Model;
 
-/// Names with the live streams by number.
+/// Names with the live streams by number. What happens by the rules to a change that is asked for, `ask_create` and those beside
+/// it tell; `add` and `take_away` then make it.
 #[derive(Drop)]
-pub(crate) struct Listed {
+pub struct Listed {
     names: NameList,
     live: Live,
 }
@@ -157,6 +158,13 @@ fn numbers_among(
 }
 
 impl Listed {
+    /// No names, and no number was given.
+    pub fn empty(alloc: Global) -> Result<Listed, AllocError>
+        ensures { IfOk result (λ l. l ≡ no_names) }
+    {
+        Listed::of(alloc, NameList::new(alloc))
+    }
+
     /// Names with their live streams. It takes memory for the numbers.
     pub(crate) fn of(alloc: Global, names: NameList) -> Result<Listed, AllocError>
         requires { AreNumbered names }
@@ -174,7 +182,7 @@ impl Listed {
     }
 
     /// The number of the stream of a name.
-    pub(crate) fn find(&self, name: &[u8]) -> Option<u32>
+    pub fn find(&self, name: &[u8]) -> Option<u32>
         ensures { result ≡ find name.now self.now }
     {
         match self.names.holder(name) {
@@ -185,7 +193,7 @@ impl Listed {
     }
 
     /// The partitions of a super stream.
-    pub(crate) fn parts(&self, alloc: Global, name: &[u8]) -> Result<Option<Row<Text>>, AllocError>
+    pub fn parts(&self, alloc: Global, name: &[u8]) -> Result<Option<Row<Text>>, AllocError>
         ensures { IfOk result (λ row. row ≡ parts name.now self.now) }
     {
         match self.names.holder(name) {
@@ -204,7 +212,7 @@ impl Listed {
     }
 
     /// The partitions of a super stream whose binding key is a routing key.
-    pub(crate) fn route(
+    pub fn route(
         &self,
         alloc: Global,
         key: &[u8],
@@ -228,28 +236,28 @@ impl Listed {
     }
 
     /// The greatest number ever given, or 0.
-    pub(crate) fn last(&self) -> u32
+    pub fn last(&self) -> u32
         ensures { result ≡ self.now.last }
     {
         self.names.last()
     }
 
     /// Whether a live stream has a number.
-    pub(crate) fn is_live(&self, number: u32) -> bool
+    pub fn is_live(&self, number: u32) -> bool
         ensures { result ≡ is_live number self.now }
     {
         self.live.has(number)
     }
 
     /// The place of a stream in its super stream, or 0.
-    pub(crate) fn part_index(&self, stream: u32) -> u32
+    pub fn part_index(&self, stream: u32) -> u32
         ensures { result ≡ part_index stream self.now }
     {
         self.live.place(stream)
     }
 
     /// The numbers of the live streams, rising.
-    pub(crate) fn streams(&self) -> &[u32]
+    pub fn streams(&self) -> &[u32]
         ensures numbers { result.now ≡ streams self.now }
         ensures rising { AreNumbered self.now }
     {
@@ -280,7 +288,7 @@ impl Listed {
     }
 
     /// A stream comes, or a super stream with its partitions. Where memory runs out nothing changes.
-    pub(crate) fn add(&mut self, alloc: Global, change: Change) -> Result<(), AllocError>
+    pub fn add(&mut self, alloc: Global, change: Change) -> Result<(), AllocError>
         requires fits { fits change self.old ≡ true }
         requires comes { Comes change.kind }
         ensures ok { OnOk result ((self.new ≡ changed change self.old) × IsFront self.old self.new) }
@@ -302,7 +310,7 @@ impl Listed {
     }
 
     /// A stream goes, or a super stream with its partitions.
-    pub(crate) fn take_away(&mut self, change: &Change)
+    pub fn take_away(&mut self, change: &Change)
         requires { Goes change.now.kind }
         ensures { self.new ≡ changed change.now self.old }
     {
