@@ -134,11 +134,7 @@ fn deletion(alloc: Global, kind: ChangeKind, number: u32, name: &Text) -> Result
 
 /// A stream that is to go. It fails by the rules in this order: `Missing`, also for the name of a super stream,
 /// `Refused(InSuper)`; or for want of memory.
-pub fn ask_delete(
-    alloc: Global,
-    listed: &Listed,
-    name: &Text,
-) -> Result<Change, CatalogFault>
+pub fn ask_delete(alloc: Global, listed: &Listed, name: &Text) -> Result<Change, CatalogFault>
     ensures asks { Asks result (deletes name.now listed.now) }
     ensures fits { IfOk result (λ change. fits change listed.now ≡ true) }
     ensures spelled { IfOk result IsChange }
@@ -159,11 +155,7 @@ pub fn ask_delete(
 }
 
 /// A super stream that is to go, with its partitions. It fails by the rules with `Missing`; or for want of memory.
-pub fn ask_delete_super(
-    alloc: Global,
-    listed: &Listed,
-    name: &Text,
-) -> Result<Change, CatalogFault>
+pub fn ask_delete_super(alloc: Global, listed: &Listed, name: &Text) -> Result<Change, CatalogFault>
     ensures asks { Asks result (deletes_super name.now listed.now) }
     ensures fits { IfOk result (λ change. fits change listed.now ≡ true) }
     ensures spelled { IfOk result IsChange }
