@@ -8,3 +8,10 @@ pub mod Storing
 pub mod Performing
 pub mod Halving
 pub mod Lasting
+pub mod RecoveryGhosts
+pub mod RecoveryNumbers
+pub mod RecoveryRows
+pub mod RecoveryFound
+pub mod RecoveryLast
+pub mod RecoveryDamage
+pub mod RecoveryJoined

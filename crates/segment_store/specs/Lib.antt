@@ -5,3 +5,4 @@ pub mod Receipts
 pub mod Faults
 pub mod Logs
 pub mod Stores
+pub mod Recovery

@@ -4,12 +4,15 @@
 //! first offset of its first chunk. A table tells where each chunk stands.
 #![tactic(auto)]
 
+mod clear;
 mod cut;
 mod ends;
 mod epochs;
 mod fault;
+mod found;
 mod member_store;
 mod receipt;
+mod recover;
 mod rows;
 mod segment_log;
 mod store_laws;

@@ -65,6 +65,18 @@ impl SegmentLog {
         })
     }
 
+    /// The log of a table that tells where its chunks stand.
+    pub(crate) fn of_rows(alloc: Global, stream: u32, rows: Vec<ChunkAt>) -> SegmentLog
+        ensures stream { result.stream ≡ stream }
+        ensures rows { result.rows ≡ rows.items }
+    {
+        SegmentLog {
+            alloc,
+            stream,
+            rows,
+        }
+    }
+
     /// The first offset behind the log.
     pub fn end(&self) -> u64
         ensures { LogEnds self.now result }
