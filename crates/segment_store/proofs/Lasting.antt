@@ -68,7 +68,7 @@ backed_holds store chunks s backed = record {
 abbrev ImagesOf : DiskState → DiskState → Type 0
 ImagesOf s t = (f : FileId) (c : Image) → t.images f c → s.images f c
 
-same_pairs : (files : Files) → SamePairs files files
+pub same_pairs : (files : Files) → SamePairs files files
 same_pairs files = record { pairs = refl; opens = λ opens. opens }
 
 keeps_images : (stream : ℕ) (s t : DiskState) → ImagesOf s t → KeepsStore stream s t

@@ -15,3 +15,5 @@ pub mod RecoveryFound
 pub mod RecoveryLast
 pub mod RecoveryDamage
 pub mod RecoveryJoined
+pub mod Returning
+pub mod RecoveryWhole

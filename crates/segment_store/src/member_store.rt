@@ -2,22 +2,30 @@
 
 ghost use Rattle.std.specs.Prelude.{◌≡◌, ◌∷◌, [], ℕ, List, IfOk, IsErrOf, IsTrue, OnOk};
 ghost use Rattle.disk_calls.specs.Disk.{HasCause};
-ghost use Rattle.disk_calls.specs.Frames.{OtherStreams};
+ghost use Rattle.disk_calls.specs.Frames.{Besides, OtherStreams};
 ghost use Rattle.chunk_format.specs.declared.chunk.Chunk.{Chunk};
 ghost use Rattle.epoch_coordinator.specs.declared.message.Job.TheVariants.{Write, Cut, Promise};
-ghost use Rattle.segment_pairs.specs.Held.{Segment, EachLog};
+ghost use Rattle.gated_words.specs.Files.{Damages, Opens, PairsOf, second_file, seen_files};
+ghost use Rattle.gated_words.specs.Backing.{Backs, KeepsPairs};
+ghost use Rattle.segment_pairs.specs.Log.{Finder};
+ghost use Rattle.segment_pairs.specs.Held.{Segment, EachLog, seen_log};
 ghost use Rattle.segment_store.specs.Rows.{grown};
+ghost use Rattle.segment_store.specs.Words.{word_of};
+ghost use Rattle.segment_store.specs.Recovery.{CanRecover, NoneReturns, SeenDamaged};
 ghost use Rattle.segment_store.specs.Logs.{LogEnds, EndsChunk};
-ghost use Rattle.segment_store.specs.Stores.{BackedStore, Continues, EachPromise, EndsRise, JobLeaves, LogBetween, PromiseBetween, SameKeeper, StandsAfter, StoreStands, log_after, promise_after, promise_of};
+ghost use Rattle.segment_store.specs.Stores.{BackedStore, Continues, EachHolds, EachPromise, EndsRise, JobLeaves, KeepsStore, LogBetween, PromiseBetween, SameKeeper, StandsAfter, StoreStands, log_after, promise_after, promise_file, promise_of};
 
 use crate::epochs::last_word;
 use crate::fault::StoreFault;
+use crate::find::recover_log;
 use crate::receipt::Receipt;
+use crate::recovered::{Recovered, Recovery, shares_of};
 use crate::segment_log::SegmentLog;
 use chunk_format::Stored;
-use disk_calls::{Disk, DiskDid};
+use disk_calls::{Disk, DiskDid, FileId, FileName};
 use epoch_coordinator::Job;
 use gated_words::Gated;
+use std::alloc::Global;
 use std::marker::Model;
 
 /// A member's log of a stream and its promises, in files of its disk.
@@ -42,7 +50,91 @@ impl Model for MemberStore {
     ghost invariant = { λ m. IsOf (record { stream = m.stream; member = m.member; log = m.log; promises = m.promises }) };
 }
 
+// Opens the file of the promises to a stream, or makes it.
+fn open_promises<D: Disk>(alloc: Global, disk: &mut D, stream: u32) -> Result<Gated, StoreFault>
+    ensures images { D.tells → KeepsPairs (promise_file stream) (D.state disk.old) (D.state disk.new) }
+    ensures others { Besides (promise_file stream) (second_file (promise_file stream)) (D.state disk.old) (D.state disk.new) }
+    ensures pairs { D.tells → IfOk result (λ g. g.pairs ≡ PairsOf (seen_files (promise_file stream) (D.state disk.old))) }
+    ensures backs { D.tells → IfOk result (λ g. Backs g (D.state disk.new)) }
+    ensures sure { IfOk result (λ g. (g.id ≡ promise_file stream) × IsTrue g.sure) }
+    ensures opens { D.tells → IfOk result (λ g. Opens (seen_files (promise_file stream) (D.state disk.old))) }
+    ensures damaged { D.tells → (place : ℕ) → IsErrOf result (StoreFault.DamagedWords place) → Damages place (seen_files (promise_file stream) (D.state disk.old)) }
+    ensures undamaged { D.tells → Opens (seen_files (promise_file stream) (D.state disk.old)) → (place : ℕ) → IsErrOf result (StoreFault.DamagedWords place) → ⊥ }
+    ensures no_segment { (segment at : ℕ) → IsErrOf result (StoreFault.Damaged segment at) → ⊥ }
+    ensures cause { HasCause (IsErrOf result StoreFault.Disk) (D.state disk.old) (D.state disk.new) }
+{
+    let id = FileId {
+        stream,
+        file: FileName::Promise,
+    };
+    let promises = Gated::open(alloc, disk, id)?;
+    Ok(promises)
+}
+
 impl MemberStore {
+    /// Recovers the log and the promises of a member of a stream, and makes them stand.
+    ///
+    /// First each segment above 0 whose index is missing or has at most a header is removed, the index first: such a one
+    /// had no record yet, or could not be removed. Then segments and indexes are read by rising number, each once, and
+    /// made sure by a sync. What a crash left behind the chunks of the last is cut away, from the index first; a last
+    /// segment above 0 without chunks is removed, and segment 0 without its headers is made anew. Then the promises are
+    /// opened. It needs memory for the chunks, for where each stands, and for the bytes of one segment at a time.
+    ///
+    /// On every answer each image that a crash may leave has the log of one from before, and the promises of one from
+    /// before; after `Ok` each has exactly what is given. `Damaged` comes exactly where no crash leaves such files of the
+    /// log: a segment does not begin where the log before it ends, one that is not the last is not its chunks and nothing
+    /// else, or behind those of the last more stands than one record of its index, or segment 0 or its index has another
+    /// header of more than 8 bytes. `DamagedWords` comes exactly where no crash leaves such files of promises, `Disk` only
+    /// where the disk failed, and `Memory` for want of memory.
+    ///
+    /// A number of a segment of which no file is seen must have no index that a crash brings back.
+    pub fn recover<D: Disk>(
+        alloc: Global,
+        disk: &mut D,
+        stream: u32,
+        member: u8,
+    ) -> Result<Recovery, StoreFault>
+        requires { D.tells → NoneReturns stream (D.state disk.old) }
+
+        // After each answer.
+        ensures images { D.tells → KeepsStore stream (D.state disk.old) (D.state disk.new) }
+        ensures others { OtherStreams stream (D.state disk.old) (D.state disk.new) }
+
+        ensures backed { D.tells → IfOk result (λ r. BackedStore r.store r.recovered.chunks (D.state disk.new)) }
+        ensures only { D.tells → IfOk result (λ r. EachHolds stream r.recovered.chunks r.recovered.promise (D.state disk.new)) }
+        ensures log { D.tells → (F : Finder) → IfOk result (λ r. seen_log F stream (D.state disk.old) ≡ r.recovered.chunks) }
+        ensures promise { D.tells → IfOk result (λ r. r.recovered.promise ≡ word_of stream (PairsOf (seen_files (promise_file stream) (D.state disk.old)))) }
+        ensures store { IfOk result (λ r. (r.store.stream ≡ stream) × (r.store.member ≡ member) × (promise_of r.store ≡ r.recovered.promise)) }
+        ensures sure { IfOk result (λ r. IsTrue r.store.promises.sure) }
+        ensures member { IfOk result (λ r. r.recovered.member ≡ member) }
+
+        ensures damaged { D.tells → (F : Finder) (segment at : ℕ) → IsErrOf result (StoreFault.Damaged segment at) → SeenDamaged F stream (D.state disk.old) segment at }
+        ensures sound { D.tells → (F : Finder) (segment at : ℕ) → OnOk result (SeenDamaged F stream (D.state disk.old) segment at → ⊥) }
+        ensures never { D.tells → CanRecover stream (D.state disk.old) → (F : Finder) (segment at : ℕ) → IsErrOf result (StoreFault.Damaged segment at) → ⊥ }
+        ensures damaged_words { D.tells → (place : ℕ) → IsErrOf result (StoreFault.DamagedWords place) → Damages place (seen_files (promise_file stream) (D.state disk.old)) }
+        ensures sound_words { D.tells → OnOk result (Opens (seen_files (promise_file stream) (D.state disk.old))) }
+        ensures never_words { D.tells → Opens (seen_files (promise_file stream) (D.state disk.old)) → (place : ℕ) → IsErrOf result (StoreFault.DamagedWords place) → ⊥ }
+        ensures cause { HasCause (IsErrOf result StoreFault.Disk) (D.state disk.old) (D.state disk.new) }
+    {
+        let found = recover_log(alloc, disk, stream)?;
+        let promises = open_promises(alloc, disk, stream)?;
+        let chunks = shares_of(alloc, &found.chunks)?;
+        let promise = last_word(promises.pairs(), stream);
+        Ok(Recovery {
+            store: MemberStore {
+                stream,
+                member,
+                log: found.log,
+                promises,
+            },
+            recovered: Recovered {
+                member,
+                promise,
+                chunks,
+            },
+        })
+    }
+
     /// The stream.
     pub fn stream(&self) -> u32
         ensures { result ≡ self.now.stream }
