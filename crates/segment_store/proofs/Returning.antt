@@ -1,5 +1,5 @@
 -- A member's log and promises, recovered one after the other.
-use Rattle.std.proofs.Common.{◌≡◌, ◌≢◌, inl, inr, ℕ, List, Bool, true, false, refl, sym, ◌∙◌, ap, subst, if◌then◌else◌, ◌==◌}
+use Rattle.std.proofs.Common.{◌≡◌, ◌≢◌, inl, inr, ℕ, List, Bool, refl, sym, ◌∙◌, ap, subst, if◌then◌else◌, ◌==◌}
 use Rattle.std.proofs.lemmas.Bool.{cases_eq, eq-eqb, ne_eqb}
 use Rattle.std.specs.Prelude.{IsTrue, IsErrOf, IsErrAnd, Result, Ok, Err}
 use Rattle.segment_store.specs.declared.fault.StoreFault.{StoreFault}
@@ -7,20 +7,19 @@ use Rattle.disk_calls.specs.declared.file_id.FileId.{FileId}
 use Rattle.disk_calls.specs.declared.file_id.FileName.{FileName}
 use Rattle.disk_calls.specs.declared.file_id.FileName.TheVariants as name
 use Rattle.disk_calls.specs.Disk.{DiskState, Image, bytes_of}
-use Rattle.disk_calls.specs.Frames.{Besides, FileStays, OtherStreams}
+use Rattle.disk_calls.specs.Frames.{Besides, OtherStreams}
 use Rattle.disk_calls.proofs.FrameLemmas.{streams_then}
 use Rattle.chunk_format.specs.declared.chunk.Chunk.{Chunk}
-use Rattle.gated_words.specs.Files.{Damages, Files, Leaves, Opens, PairsOf, second_file, seen_files}
+use Rattle.gated_words.specs.Files.{Damages, Files, Opens, PairsOf, second_file, seen_files}
 use Rattle.gated_words.specs.InHand.{InHand}
 use Rattle.gated_words.specs.Backing.{Backs, KeepsPairs}
-use Rattle.segment_pairs.specs.Log.{Finder, LogOf}
-use Rattle.segment_pairs.specs.Held.{segment_file, index_file, Segment, all_chunks, Picks, files_of, KeepsLog, OutsideLog}
-use Rattle.segment_store.specs.declared.rows.ChunkAt.{ChunkAt}
+use Rattle.segment_pairs.specs.Log.{LogOf}
+use Rattle.segment_pairs.specs.Held.{segment_file, index_file, Segment, Picks, files_of, KeepsLog, OutsideLog}
 use Rattle.segment_store.specs.Rows.{LogStands}
 use Rattle.segment_store.specs.Recovery.{Recovers}
 use Rattle.segment_store.specs.Logs.{LogInHand}
-use Rattle.segment_store.specs.Stores.{StoreInHand, IsOf, BackedStore, EachHolds, KeepsStore, promise_file, promise_of}
-use Rattle.segment_store.proofs.Storing.{LogStays, log_left, put_leaves, outside_stay, outside_streams, promise_apart, second_apart, put_streams}
+use Rattle.segment_store.specs.Stores.{StoreInHand, BackedStore, EachHolds, KeepsStore, promise_file, promise_of}
+use Rattle.segment_store.proofs.Storing.{LogStays, log_left, put_leaves, outside_streams, promise_apart, second_apart, put_streams}
 use Rattle.segment_store.proofs.Lasting.{same_pairs, keeps_then}
 use Rattle.segment_store.proofs.Performing.{after_log, after_promise}
 

@@ -26,4 +26,6 @@ pub use member_store::MemberStore;
 pub use receipt::Receipt;
 pub use recovered::{Recovered, Recovery};
 pub use segment_log::SegmentLog;
-pub use store_laws::{jobs_continue_logs, logs_outlast_crashes, stores_stay_backed};
+pub use store_laws::{
+    jobs_continue_logs, logs_outlast_crashes, recovery_may_begin, stores_stay_backed,
+};

@@ -6,6 +6,7 @@ ghost use Rattle.disk_calls.specs.Frames.{OtherStreams};
 ghost use Rattle.chunk_format.specs.declared.chunk.Chunk.{Chunk};
 ghost use Rattle.epoch_coordinator.specs.declared.message.Job.{Job};
 ghost use Rattle.segment_pairs.specs.Log.{Finder};
+ghost use Rattle.segment_store.specs.Recovery.{NoneReturns};
 ghost use Rattle.segment_store.specs.Stores.{BackedStore, Continues, ContinuesLog, EachHolds, EndsRise, KeepsStore, StoreInHand, promise_of};
 
 use disk_calls::Disk;
@@ -38,4 +39,12 @@ pub fn jobs_continue_logs<D: Disk>()
     ensures rise { (store : StoreInHand) (chunks : List Chunk) (d : D) → BackedStore store chunks (D.state d) → EndsRise store.log.rows }
     ensures log { (store : StoreInHand) (chunks : List Chunk) (d : D) (job : Job) → BackedStore store chunks (D.state d) → Continues store job → ContinuesLog chunks job }
     ensures store { (store : StoreInHand) (chunks : List Chunk) (d : D) (job : Job) → BackedStore store chunks (D.state d) → ContinuesLog chunks job → Continues store job }
+{}
+
+/// A member's store may be recovered after a crash, and then while calls only look or only other streams' files change: a
+/// number of a segment of which no file is seen has no index that comes back. It does nothing.
+pub fn recovery_may_begin<D: Disk>()
+    ensures crash { (stream : ℕ) (old new : D) → LeftByCrash stream (D.state old) (D.state new) → NoneReturns stream (D.state new) }
+    ensures looks { (stream : ℕ) (old new : D) → Looks (D.state old) (D.state new) → NoneReturns stream (D.state old) → NoneReturns stream (D.state new) }
+    ensures streams { (stream of : ℕ) (old new : D) → stream ≢ of → OtherStreams of (D.state old) (D.state new) → NoneReturns stream (D.state old) → NoneReturns stream (D.state new) }
 {}
