@@ -3,6 +3,7 @@ pub mod Pairs
 pub mod Moving
 pub mod Making
 pub mod Torn
+pub mod Leaving
 pub mod Walking
 pub mod Many
 pub mod Lifting

@@ -47,7 +47,7 @@ both_made stream n chunk t u first is now index stays = record {
 pub no_bytes : (c : Image) → c ≡ None → length (bytes_of c) ≡ 0
 no_bytes c is = ap (λ (f : Image). length (bytes_of f)) is
 
-removed_from : (d c : Image) → RemovedFile d c → (c ≡ None) ⊎ (d ≡ c)
+pub removed_from : (d c : Image) → RemovedFile d c → (c ≡ None) ⊎ (d ≡ c)
 removed_from d None gone = inl refl
 removed_from d (Some new) gone = inr gone
 

@@ -110,7 +110,7 @@ behind_cut F place end k m (c ∷ cs) e fit le cut = elim (cases_lt k 29) [
       }
 ]
 
-take_header : (k : ℕ) (l : List ℕ) → 8 ≤ k → take k (index_header ++ l) ≡ index_header ++ take (k - 8) l
+pub take_header : (k : ℕ) (l : List ℕ) → 8 ≤ k → take k (index_header ++ l) ≡ index_header ++ take (k - 8) l
 take_header k l le = ap (λ (n : ℕ). take n (index_header ++ l)) (omega arith) ∙ take-append-add index_header l (k - 8)
 
 -- a front of the index gives a front of the log

@@ -36,7 +36,7 @@ torn_pair stream n cs size index_size s t F a b left_a left_b =
     ∙ torn_log F stream n cs size index_size (length t.index_rest) s t
 
 -- a cut of what stands behind
-cut_behind : (xs e : List ℕ) (k : ℕ) → length xs ≤ k → take k (xs ++ e) ≡ xs ++ take (k - length xs) e
+pub cut_behind : (xs e : List ℕ) (k : ℕ) → length xs ≤ k → take k (xs ++ e) ≡ xs ++ take (k - length xs) e
 cut_behind xs e k le = ap (λ (n : ℕ). take n (xs ++ e)) (omega (arith, le)) ∙ take-append-add xs e (k - length xs)
 
 -- while the index is cut

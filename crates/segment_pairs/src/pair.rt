@@ -1,11 +1,13 @@
 //! Changes of a segment and its index.
 
 ghost use Rattle.std.specs.Prelude.{◌≡◌, ◌≤◌, ◌<◌, ◌++◌, ◌∷◌, [], List, ℕ, length, take, None, IfOk};
-ghost use Rattle.disk_calls.specs.Disk.{Image, HasCause};
+ghost use Rattle.disk_calls.specs.Disk.{Image, HasCause, Only};
+ghost use Rattle.disk_calls.specs.Frames.{AtMost, EachImage};
 ghost use Rattle.chunk_format.specs.declared.chunk.Chunk.{Chunk};
 ghost use Rattle.chunk_format.specs.Chunks.{IsChunk};
 ghost use Rattle.segment_pairs.specs.Log.{record_of, segment_of, index_of};
-ghost use Rattle.segment_pairs.specs.Held.{Stands, OldOrNew, Front, EachPair, BesidesPair, CanWrite, CanCut, Missing, GoneOrBefore, FoundTorn};
+ghost use Rattle.segment_pairs.specs.Held.{Stands, OldOrNew, Front, EachPair, BesidesPair, CanWrite, CanCut, Missing, GoneOrBefore, FoundTorn, segment_file};
+ghost use Rattle.segment_pairs.specs.Left.{EachLeft};
 
 use chunk_format::{Stored, index_record};
 use disk_calls::{Disk, DiskDid, FileId, FileName, append, make_file, shorten};
@@ -31,6 +33,7 @@ pub fn write_pair<D: Disk>(
 ) -> DiskDid
     requires { D.tells → (cs : List Chunk) × CanWrite stream number cs chunk.now place index_place (D.state disk.old) }
     ensures images { D.tells → (cs : List Chunk) → CanWrite stream number cs chunk.now place index_place (D.state disk.old) → EachPair stream number (OldOrNew cs chunk.now) (D.state disk.new) }
+    ensures left { D.tells → (cs : List Chunk) → CanWrite stream number cs chunk.now place index_place (D.state disk.old) → EachLeft stream number (D.state disk.new) }
     ensures done { D.tells → result ≡ DiskDid.Done → (cs : List Chunk) → CanWrite stream number cs chunk.now place index_place (D.state disk.old) → Stands stream (record { number = number; chunks = cs ++ chunk.now ∷ [] }) (D.state disk.new) }
     ensures others { BesidesPair stream number (D.state disk.old) (D.state disk.new) }
     ensures cause { HasCause (result ≡ DiskDid.Failed) (D.state disk.old) (D.state disk.new) }
@@ -61,6 +64,7 @@ pub fn cut_pair<D: Disk>(
 ) -> DiskDid
     requires { D.tells → (cs : List Chunk) × (left : ℕ) × CanCut stream number cs left size index_size (D.state disk.old) }
     ensures images { D.tells → (cs : List Chunk) (left : ℕ) → CanCut stream number cs left size index_size (D.state disk.old) → EachPair stream number (Front left cs) (D.state disk.new) }
+    ensures left { D.tells → (cs : List Chunk) (left : ℕ) → CanCut stream number cs left size index_size (D.state disk.old) → EachLeft stream number (D.state disk.new) }
     ensures done { D.tells → result ≡ DiskDid.Done → (cs : List Chunk) (left : ℕ) → CanCut stream number cs left size index_size (D.state disk.old) → Stands stream (record { number = number; chunks = take left cs }) (D.state disk.new) }
     ensures others { BesidesPair stream number (D.state disk.old) (D.state disk.new) }
     ensures cause { HasCause (result ≡ DiskDid.Failed) (D.state disk.old) (D.state disk.new) }
@@ -119,6 +123,7 @@ pub fn make_pair<D: Disk>(
     requires first { chunk.now.first ≡ number }
     requires missing { D.tells → Missing stream number (D.state disk.old) }
     ensures images { D.tells → EachPair stream number (OldOrNew [] chunk.now) (D.state disk.new) }
+    ensures left { D.tells → 0 < number → EachLeft stream number (D.state disk.new) }
     ensures done { D.tells → result ≡ DiskDid.Done → Stands stream (record { number = number; chunks = chunk.now ∷ [] }) (D.state disk.new) }
     ensures others { BesidesPair stream number (D.state disk.old) (D.state disk.new) }
     ensures cause { HasCause (result ≡ DiskDid.Failed) (D.state disk.old) (D.state disk.new) }
@@ -143,6 +148,7 @@ pub fn make_pair<D: Disk>(
 pub fn begin_pair<D: Disk>(disk: &mut D, stream: u32) -> DiskDid
     requires { D.tells → Missing stream 0 (D.state disk.old) }
     ensures images { D.tells → EachPair stream 0 (λ l. l ≡ []) (D.state disk.new) }
+    ensures left { D.tells → EachImage (segment_file stream 0) (AtMost 8) (D.state disk.old) → EachLeft stream 0 (D.state disk.new) }
     ensures done { D.tells → result ≡ DiskDid.Done → Stands stream (record { number = 0; chunks = [] }) (D.state disk.new) }
     ensures others { BesidesPair stream 0 (D.state disk.old) (D.state disk.new) }
     ensures cause { HasCause (result ≡ DiskDid.Failed) (D.state disk.old) (D.state disk.new) }
@@ -164,7 +170,9 @@ pub fn begin_pair<D: Disk>(disk: &mut D, stream: u32) -> DiskDid
 /// Removes a segment, its index first. Its calls of the disk are `remove` of each.
 pub fn remove_pair<D: Disk>(disk: &mut D, stream: u32, number: u64) -> DiskDid
     ensures images { GoneOrBefore stream number (D.state disk.old) (D.state disk.new) }
+    ensures left { D.tells → EachLeft stream number (D.state disk.old) → EachLeft stream number (D.state disk.new) }
     ensures done { D.tells → result ≡ DiskDid.Done → Missing stream number (D.state disk.new) }
+    ensures gone { result ≡ DiskDid.Done → Only None ((D.state disk.new).images (segment_file stream number)) }
     ensures others { BesidesPair stream number (D.state disk.old) (D.state disk.new) }
     ensures cause { HasCause (result ≡ DiskDid.Failed) (D.state disk.old) (D.state disk.new) }
 {
@@ -193,6 +201,7 @@ pub fn trim_pair<D: Disk>(
 ) -> DiskDid
     requires { D.tells → (cs : List Chunk) × FoundTorn stream number cs size index_size (D.state disk.old) }
     ensures images { D.tells → (cs : List Chunk) → FoundTorn stream number cs size index_size (D.state disk.old) → EachPair stream number (λ l. l ≡ cs) (D.state disk.new) }
+    ensures left { D.tells → (cs : List Chunk) → FoundTorn stream number cs size index_size (D.state disk.old) → EachLeft stream number (D.state disk.new) }
     ensures done { D.tells → result ≡ DiskDid.Done → (cs : List Chunk) → FoundTorn stream number cs size index_size (D.state disk.old) → Stands stream (record { number = number; chunks = cs }) (D.state disk.new) }
     ensures others { BesidesPair stream number (D.state disk.old) (D.state disk.new) }
     ensures cause { HasCause (result ≡ DiskDid.Failed) (D.state disk.old) (D.state disk.new) }

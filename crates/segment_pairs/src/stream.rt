@@ -1,10 +1,11 @@
 //! Changes of the last segment of a stream, and what all of its files then stand for.
 
-ghost use Rattle.std.specs.Prelude.{◌≡◌, ◌++◌, ◌∷◌, ◌+◌, [], List, ℕ, length, take};
+ghost use Rattle.std.specs.Prelude.{◌≡◌, ◌++◌, ◌∷◌, ◌+◌, ◌<◌, [], List, ℕ, length, take};
 ghost use Rattle.disk_calls.specs.Disk.{HasCause};
 ghost use Rattle.chunk_format.specs.declared.chunk.Chunk.{Chunk};
 ghost use Rattle.segment_pairs.specs.Log.{segment_of};
 ghost use Rattle.segment_pairs.specs.Held.{Segment, OldOrNew, Front, EachLog, CanWrite, CanCut, CanBegin, Held, OutsideLog, all_chunks, BesidesPair};
+ghost use Rattle.segment_pairs.specs.Left.{EachLeft};
 
 use crate::pair::{cut_pair, make_pair, remove_pair, write_pair};
 use chunk_format::Stored;
@@ -21,6 +22,7 @@ pub fn write_last<D: Disk>(
 ) -> DiskDid
     requires { D.tells → (cs : List Chunk) × CanWrite stream number cs chunk.now place index_place (D.state disk.old) }
     ensures images { D.tells → (older : List Segment) (cs : List Chunk) → Held stream (record { number = number; chunks = cs } ∷ older) (D.state disk.old) → CanWrite stream number cs chunk.now place index_place (D.state disk.old) → EachLog stream (OldOrNew (all_chunks older ++ cs) chunk.now) (D.state disk.new) }
+    ensures left { D.tells → (cs : List Chunk) → CanWrite stream number cs chunk.now place index_place (D.state disk.old) → EachLeft stream number (D.state disk.new) }
     ensures done { D.tells → result ≡ DiskDid.Done → (older : List Segment) (cs : List Chunk) → Held stream (record { number = number; chunks = cs } ∷ older) (D.state disk.old) → CanWrite stream number cs chunk.now place index_place (D.state disk.old) → Held stream (record { number = number; chunks = cs ++ chunk.now ∷ [] } ∷ older) (D.state disk.new) }
     ensures others { BesidesPair stream number (D.state disk.old) (D.state disk.new) }
     ensures cause { HasCause (result ≡ DiskDid.Failed) (D.state disk.old) (D.state disk.new) }
@@ -40,6 +42,7 @@ pub fn write_new<D: Disk>(
     requires first { chunk.now.first ≡ number }
     requires can { D.tells → (segments : List Segment) × CanBegin stream number segments (D.state disk.old) }
     ensures images { D.tells → (segments : List Segment) → CanBegin stream number segments (D.state disk.old) → EachLog stream (OldOrNew (all_chunks segments) chunk.now) (D.state disk.new) }
+    ensures left { D.tells → 0 < number → EachLeft stream number (D.state disk.new) }
     ensures done { D.tells → result ≡ DiskDid.Done → (segments : List Segment) → CanBegin stream number segments (D.state disk.old) → Held stream (record { number = number; chunks = chunk.now ∷ [] } ∷ segments) (D.state disk.new) }
     ensures others { BesidesPair stream number (D.state disk.old) (D.state disk.new) }
     ensures cause { HasCause (result ≡ DiskDid.Failed) (D.state disk.old) (D.state disk.new) }
@@ -50,6 +53,7 @@ pub fn write_new<D: Disk>(
 /// Removes the last segment.
 pub fn remove_last<D: Disk>(disk: &mut D, stream: u32, number: u64) -> DiskDid
     ensures images { D.tells → (older : List Segment) (cs : List Chunk) → Held stream (record { number = number; chunks = cs } ∷ older) (D.state disk.old) → EachLog stream (Front (length (all_chunks older)) (all_chunks older ++ cs)) (D.state disk.new) }
+    ensures left { D.tells → EachLeft stream number (D.state disk.old) → EachLeft stream number (D.state disk.new) }
     ensures done { D.tells → result ≡ DiskDid.Done → (older : List Segment) (cs : List Chunk) → Held stream (record { number = number; chunks = cs } ∷ older) (D.state disk.old) → Held stream older (D.state disk.new) }
     ensures others { BesidesPair stream number (D.state disk.old) (D.state disk.new) }
     ensures cause { HasCause (result ≡ DiskDid.Failed) (D.state disk.old) (D.state disk.new) }
@@ -67,6 +71,7 @@ pub fn cut_last<D: Disk>(
 ) -> DiskDid
     requires { D.tells → (cs : List Chunk) × (left : ℕ) × CanCut stream number cs left size index_size (D.state disk.old) }
     ensures images { D.tells → (older : List Segment) (cs : List Chunk) (left : ℕ) → Held stream (record { number = number; chunks = cs } ∷ older) (D.state disk.old) → CanCut stream number cs left size index_size (D.state disk.old) → EachLog stream (Front (length (all_chunks older) + left) (all_chunks older ++ cs)) (D.state disk.new) }
+    ensures left { D.tells → (cs : List Chunk) (left : ℕ) → CanCut stream number cs left size index_size (D.state disk.old) → EachLeft stream number (D.state disk.new) }
     ensures done { D.tells → result ≡ DiskDid.Done → (older : List Segment) (cs : List Chunk) (left : ℕ) → Held stream (record { number = number; chunks = cs } ∷ older) (D.state disk.old) → CanCut stream number cs left size index_size (D.state disk.old) → Held stream (record { number = number; chunks = take left cs } ∷ older) (D.state disk.new) }
     ensures others { BesidesPair stream number (D.state disk.old) (D.state disk.new) }
     ensures cause { HasCause (result ≡ DiskDid.Failed) (D.state disk.old) (D.state disk.new) }

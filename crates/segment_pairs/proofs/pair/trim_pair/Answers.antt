@@ -2,6 +2,7 @@ use Rattle.std.proofs.Common.{◌++◌, length-append, arith}
 use Rattle.segment_pairs.specs.Log.{segment_of, index_of}
 use Rattle.segment_pairs.proofs.Moving.{did_done, apart, settled_stays}
 use Rattle.segment_pairs.proofs.Torn.{index_trims, segment_trims, pair_trimmed}
+use Rattle.segment_pairs.proofs.Leaving.{index_trim_leaves, segment_trim_leaves}
 use Rattle.segment_pairs.proofs.pair.trim_pair.Goals as goal
 
 pub shorten-requires : goal.shorten-requires
@@ -29,3 +30,13 @@ returns-clause-done g c = λ told did cs t.
     let now = c.shorten.ensures.done told (did_done _ c.in_default.not-Failed) (index_of cs ++ t.index_rest) t.index in
     let segment = settled_stays _ _ (segment_of cs ++ t.rest) _ _ (apart c.args.stream c.args.number c.args.number) c.shorten.ensures.others t.segment in
     pair_trimmed _ _ cs _ _ _ _ _ t now (c.shorten-2.ensures.done told did (segment_of cs ++ t.rest) segment) c.shorten-2.ensures.others
+
+pub returns-in-Failed-clause-left : goal.returns-in-Failed-clause-left
+returns-in-Failed-clause-left g c = λ told cs t.
+    index_trim_leaves _ _ cs _ _ _ _ t (c.shorten.ensures.images told (index_of cs ++ t.index_rest) t.index) c.shorten.ensures.others
+
+pub returns-clause-left : goal.returns-clause-left
+returns-clause-left g c = λ told cs t.
+    let now = c.shorten.ensures.done told (did_done _ c.in_default.not-Failed) (index_of cs ++ t.index_rest) t.index in
+    let segment = settled_stays _ _ (segment_of cs ++ t.rest) _ _ (apart c.args.stream c.args.number c.args.number) c.shorten.ensures.others t.segment in
+    segment_trim_leaves _ _ cs _ _ _ _ _ t now (c.shorten-2.ensures.images told (segment_of cs ++ t.rest) segment) c.shorten-2.ensures.others
