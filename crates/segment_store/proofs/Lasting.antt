@@ -65,7 +65,7 @@ backed_holds store chunks s backed = record {
 -- ---- images of before
 
 -- no image comes
-abbrev ImagesOf : DiskState → DiskState → Type 0
+abbrev pub ImagesOf : DiskState → DiskState → Type 0
 ImagesOf s t = (f : FileId) (c : Image) → t.images f c → s.images f c
 
 pub same_pairs : (files : Files) → SamePairs files files
@@ -80,14 +80,14 @@ keeps_images stream s t back = record {
 pub keeps_looks : (stream : ℕ) (s t : DiskState) → Looks s t → KeepsStore stream s t
 keeps_looks stream s t looks = keeps_images stream s t looks.images
 
+pub crash_images : (of : ℕ) (s t : DiskState) → LeftByCrash of s t → ImagesOf s t
+crash_images of s t crash f c left = elim (cases_eq f.stream of) [
+  | inl same ↦ let here = crash.own f same in subst (λ (x : Image). s.images f x) (sym (here.1 c left)) here.0
+  | inr ne ↦ (crash.others f ne).1 c left
+]
+
 pub keeps_crash : (stream of : ℕ) (s t : DiskState) → LeftByCrash of s t → KeepsStore stream s t
-keeps_crash stream of s t crash = keeps_images stream s t back
-  where
-    back : ImagesOf s t
-    back f c left = elim (cases_eq f.stream of) [
-      | inl same ↦ let here = crash.own f same in subst (λ (x : Image). s.images f x) (sym (here.1 c left)) here.0
-      | inr ne ↦ (crash.others f ne).1 c left
-    ]
+keeps_crash stream of s t crash = keeps_images stream s t (crash_images of s t crash)
 
 -- the images of one stream, and what a read gives of the others
 abbrev mixed : ℕ → DiskState → (FileId → Image) → FileId → Image

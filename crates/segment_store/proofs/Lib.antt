@@ -17,3 +17,4 @@ pub mod RecoveryDamage
 pub mod RecoveryJoined
 pub mod Returning
 pub mod RecoveryWhole
+pub mod Keeping

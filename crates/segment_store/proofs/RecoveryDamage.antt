@@ -1,22 +1,22 @@
 -- Which files no crash leaves.
-use Rattle.std.proofs.Common.{◌≡◌, ◌≢◌, ◌⊎◌, inl, inr, ℕ, ◌+◌, ◌≤◌, ◌<◌, ◌^◌, List, [], ◌∷◌, ◌++◌, length, Some, None, refl, sym, ◌∙◌, ap, subst, arith}
+use Rattle.std.proofs.Common.{◌≡◌, ◌≢◌, ◌⊎◌, inl, inr, ℕ, ◌+◌, ◌≤◌, ◌<◌, ◌^◌, List, [], ◌∷◌, length, refl, sym, ◌∙◌, ap, subst, arith}
 use Rattle.std.proofs.lemmas.Bool.{cases_eq, cases_lt}
 use Rattle.disk_calls.specs.declared.file_id.FileId.{FileId}
 use Rattle.disk_calls.specs.Disk.{DiskState, Image, bytes_of, Looks}
 use Rattle.chunk_format.specs.declared.chunk.Chunk.{Chunk}
-use Rattle.chunk_format.specs.Logs.{end_from, end_of}
-use Rattle.segment_pairs.specs.Log.{Finder, Pair, Reading, pair_log, read_below, segment_of, index_of}
+use Rattle.chunk_format.specs.Logs.{end_of}
+use Rattle.segment_pairs.specs.Log.{Finder, Pair, Reading, pair_log, segment_of, index_of}
 use Rattle.segment_pairs.specs.Held.{segment_file, index_file, Segment, all_chunks, Picks, files_of, Missing, MissingFrom, Stands, HeldBelow}
 use Rattle.segment_pairs.proofs.Pairs.{pair_whole}
 use Rattle.segment_pairs.proofs.Many.{read_held, standing, missing_index}
 use Rattle.segment_store.specs.declared.rows.ChunkAt.{ChunkAt}
-use Rattle.segment_store.specs.Recovery.{Adds, AreChunks, Counts, Exceeds, IsBroken, IsDamaged, IsEnough, IsMisplaced, IsSound, IsSpoilt, IsTooMuch, IsUneven, Listed, Reached, ReachedLast, SameOrNone, SeenDamaged, log_below}
+use Rattle.segment_store.specs.Recovery.{Adds, AreChunks, Counts, Exceeds, IsDamaged, IsEnough, IsSound, IsTooMuch, IsUneven, ReachedLast, SameOrNone, SeenDamaged, log_below}
 use Rattle.segment_store.proofs.RecoveryGhosts.{read_same, same_looks}
 use Rattle.segment_store.proofs.RecoveryLast.{WalksTo, added_below, added_end, listed_looks}
 
 -- ---- a number without files does not count
 
-missing_counts : (stream n : ℕ) (s : DiskState) (pick : FileId → Image) → Picks s pick → 0 < n → Missing stream n s → Counts n (files_of stream pick n) → ⊥
+pub missing_counts : (stream n : ℕ) (s : DiskState) (pick : FileId → Image) → Picks s pick → 0 < n → Missing stream n s → Counts n (files_of stream pick n) → ⊥
 missing_counts stream n s pick picks some missing (inl is) = omega (arith, is, some)
 missing_counts stream n s pick picks some missing (inr long) = omega (arith, long, missing_index stream n s pick missing picks)
 
@@ -35,7 +35,7 @@ sound_at F stream x older s pick picks follows stands below =
       chunks = (ap (λ (p : Pair). p.0) is ∙ ap segment_of (sym log), ap (λ (p : Pair). p.1) is ∙ ap index_of (sym log));
     }
 
-more : (a b : ℕ) → b ≤ a → (a ≡ b → ⊥) → b + 1 ≤ a
+pub more : (a b : ℕ) → b ≤ a → (a ≡ b → ⊥) → b + 1 ≤ a
 more a b ge ne = elim (cases_lt b a) [ inl lt ↦ omega (arith, lt) | inr le ↦ absurd (ne (omega (arith, ge, le))) ]
 
 pub sound_below : (F : Finder) (stream top : ℕ) (older : List Segment) (s : DiskState) (pick : FileId → Image) → Picks s pick → (older ≡ [] → top ≡ 0) → HeldBelow stream top older s → (m : ℕ) → m < top → Counts m (files_of stream pick m) → IsSound F (files_of stream pick) m
@@ -52,7 +52,7 @@ sound_below F stream top (x ∷ older) s pick picks first held m lt counts = eli
 pub tail_sound : (F : Finder) (stream n : ℕ) (older : List Segment) (s : DiskState) (pick : FileId → Image) → Picks s pick → n ≡ end_of (all_chunks older) → HeldBelow stream n older s → (m : ℕ) → m < n → Counts m (files_of stream pick m) → IsSound F (files_of stream pick) m
 tail_sound F stream n older s pick picks follows below = sound_below F stream n older s pick picks (λ none. follows ∙ ap (λ (l : List Segment). end_of (all_chunks l)) none) below
 
-tail_begins : (F : Finder) (stream n : ℕ) (older : List Segment) (s : DiskState) (pick : FileId → Image) → Picks s pick → n ≡ end_of (all_chunks older) → HeldBelow stream n older s → n ≡ end_of (log_below F n (files_of stream pick))
+pub tail_begins : (F : Finder) (stream n : ℕ) (older : List Segment) (s : DiskState) (pick : FileId → Image) → Picks s pick → n ≡ end_of (all_chunks older) → HeldBelow stream n older s → n ≡ end_of (log_below F n (files_of stream pick))
 tail_begins F stream n older s pick picks follows below = follows ∙ ap end_of (sym (below_is F stream n older s pick picks below))
 
 -- nothing is damaged where all below the last number stands, and no more stands behind its chunks
@@ -162,15 +162,15 @@ short_pair : (P Q : ℕ → Pair) (n : ℕ) → SamePair P Q n → (P n ≡ Q n)
 short_pair P Q n (inl same) = inl same
 short_pair P Q n (inr none) = inr (none.1, none.2)
 
-below_pairs : (F : Finder) (n : ℕ) (P Q : ℕ → Pair) → ((i : ℕ) → SamePair P Q i) → log_below F n P ≡ log_below F n Q
+pub below_pairs : (F : Finder) (n : ℕ) (P Q : ℕ → Pair) → ((i : ℕ) → SamePair P Q i) → log_below F n P ≡ log_below F n Q
 below_pairs F n P Q all = ap (λ (r : Reading). r.chunks) (read_same F n P Q (λ i. short_pair P Q i (all i)))
 
-counts_same : (P Q : ℕ → Pair) (n : ℕ) → SamePair P Q n → Counts n (P n) → (P n ≡ Q n) × Counts n (Q n)
+pub counts_same : (P Q : ℕ → Pair) (n : ℕ) → SamePair P Q n → Counts n (P n) → (P n ≡ Q n) × Counts n (Q n)
 counts_same P Q n (inl same) counts = (same, subst (λ (p : Pair). Counts n p) same counts)
 counts_same P Q n (inr none) (inl is) = absurd (omega (arith, is, none.0))
 counts_same P Q n (inr none) (inr long) = absurd (omega (arith, long, none.1))
 
-same_back : (P Q : ℕ → Pair) (n : ℕ) → SamePair P Q n → SamePair Q P n
+pub same_back : (P Q : ℕ → Pair) (n : ℕ) → SamePair P Q n → SamePair Q P n
 same_back P Q n (inl same) = inl (sym same)
 same_back P Q n (inr none) = inr (none.0, none.2, none.1)
 

@@ -1,18 +1,17 @@
 -- What recovery finds in the files of one number.
-use Rattle.std.proofs.Common.{◌≡◌, ◌⊎◌, inl, inr, ℕ, zero, ◌+◌, ◌*◌, ◌-◌, ◌≤◌, ◌<◌, List, [], ◌∷◌, ◌++◌, length, Some, None, Bool, true, false, refl, sym, ◌∙◌, ap, subst, arith, append_assoc, length-append, ◌&&◌}
+use Rattle.std.proofs.Common.{◌≡◌, inl, inr, ℕ, zero, ◌+◌, ◌≤◌, ◌<◌, List, [], ◌∷◌, ◌++◌, length, true, refl, sym, ◌∙◌, ap, subst, arith, length-append, ◌&&◌}
 use Rattle.std.proofs.lemmas.Bool.{both_ways}
 use Rattle.std.proofs.lemmas.List.{append-nil}
 use Rattle.disk_calls.specs.declared.file_id.FileId.{FileId}
 use Rattle.disk_calls.specs.Disk.{DiskState, Image, bytes_of, Settled}
 use Rattle.chunk_format.specs.declared.chunk.Chunk.{Chunk}
-use Rattle.chunk_format.specs.Logs.{end_from}
 use Rattle.segment_pairs.specs.declared.look.Headless.{Headless}
 use Rattle.segment_pairs.specs.Log.{Finder, NoMatch, Pair, begins, segment_header, index_header, pair_log, chunks_behind, flat, records, segment_of, index_of}
 use Rattle.segment_pairs.specs.Held.{segment_file, index_file, files_of, Stands, FoundTorn}
 use Rattle.segment_pairs.specs.Found.{Walked, Sure, Lacks, Reads, SureOf}
 use Rattle.segment_pairs.proofs.Reading.{begins_self, step_no}
 use Rattle.segment_pairs.proofs.Pairs.{pair_front, pair_headless, length-segment, length-index}
-use Rattle.segment_store.specs.Recovery.{AreChunks, Exceeds, IsEnough, IsOther, IsSpoiltHead, IsTooMuch, IsUneven}
+use Rattle.segment_store.specs.Recovery.{Exceeds, IsEnough, IsSpoiltHead, IsTooMuch, IsUneven}
 
 -- files of which one has not its whole header
 abbrev pub LacksAt : ℕ → ℕ → Headless → DiskState → Type 0

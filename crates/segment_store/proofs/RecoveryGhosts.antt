@@ -1,11 +1,10 @@
 -- A segment without records may be removed wherever it stands.
-use Rattle.std.proofs.Common.{◌≡◌, ◌≢◌, ◌⊎◌, inl, inr, ℕ, zero, suc, ◌+◌, ◌≤◌, ◌<◌, ◌^◌, List, [], length, Some, None, Bool, true, false, refl, sym, ◌∙◌, ap, subst, arith, ◌==◌, ◌&&◌, if◌then◌else◌}
+use Rattle.std.proofs.Common.{◌≡◌, ◌≢◌, ◌⊎◌, inl, inr, ℕ, zero, suc, ◌≤◌, ◌^◌, length, None, Bool, true, false, refl, sym, ◌∙◌, ap, subst, ◌==◌, ◌&&◌, if◌then◌else◌}
 use Rattle.std.proofs.lemmas.Bool.{cases_eq, and_from, and_right, and_parts, eq-eqb, ne_eqb, eqb-true, both_ways}
 use Rattle.disk_calls.specs.declared.file_id.FileId.{FileId}
 use Rattle.disk_calls.specs.declared.file_id.FileName.{FileName}
 use Rattle.disk_calls.specs.declared.file_id.FileName.TheVariants as name
 use Rattle.disk_calls.specs.Disk.{DiskState, Image, bytes_of, Looks}
-use Rattle.chunk_format.specs.declared.chunk.Chunk.{Chunk}
 use Rattle.segment_pairs.specs.Log.{Finder, Pair, Reading, LogOf, read_pair, read_below}
 use Rattle.segment_pairs.specs.Held.{segment_file, index_file, Picks, files_of, Missing, BesidesPair, KeepsLog, GoneOrBefore, seen_log}
 use Rattle.segment_pairs.proofs.Many.{read_zero, read_suc, read_none}
@@ -28,7 +27,7 @@ number_in stream n st name.EpochsTwo = false
 number_in stream n st name.CatalogWordsTwo = false
 
 -- what is seen of the two files of a number, and these images of the others
-mixed : ℕ → ℕ → DiskState → (FileId → Image) → FileId → Image
+pub mixed : ℕ → ℕ → DiskState → (FileId → Image) → FileId → Image
 mixed stream n s pick f = if number_in stream n f.stream f.file then s.seen f else pick f
 
 segment_in : (stream n : ℕ) → number_in stream n stream (name.Segment n) ≡ true
@@ -80,7 +79,7 @@ mixed_at : (stream n : ℕ) (s t : DiskState) (pick : FileId → Image) → ((f 
 mixed_at stream n s t pick law besides picks f true is = law f
 mixed_at stream n s t pick law besides picks f false is = besides.images f (not_segment stream n f is) (not_index stream n f is) (pick f) (picks f)
 
-mixed_picks : (stream n : ℕ) (s t : DiskState) (pick : FileId → Image) → ((f : FileId) → s.images f (s.seen f)) → BesidesPair stream n s t → Picks t pick → Picks s (mixed stream n s pick)
+pub mixed_picks : (stream n : ℕ) (s t : DiskState) (pick : FileId → Image) → ((f : FileId) → s.images f (s.seen f)) → BesidesPair stream n s t → Picks t pick → Picks s (mixed stream n s pick)
 unfolding mixed
 mixed_picks stream n s t pick law besides picks f = mixed_at stream n s t pick law besides picks f (number_in stream n f.stream f.file) refl
 
@@ -91,15 +90,15 @@ picks_at stream n s t pick besides picks one two f false is = besides.images f (
 pub picks_before : (stream n : ℕ) (s t : DiskState) (pick : FileId → Image) → BesidesPair stream n s t → Picks t pick → s.images (segment_file stream n) (pick (segment_file stream n)) → s.images (index_file stream n) (pick (index_file stream n)) → Picks s pick
 picks_before stream n s t pick besides picks one two f = picks_at stream n s t pick besides picks one two f (number_in stream n f.stream f.file) refl
 
-mixed_segment : (stream n i : ℕ) (s : DiskState) (pick : FileId → Image) → i ≢ n → mixed stream n s pick (segment_file stream i) ≡ pick (segment_file stream i)
+pub mixed_segment : (stream n i : ℕ) (s : DiskState) (pick : FileId → Image) → i ≢ n → mixed stream n s pick (segment_file stream i) ≡ pick (segment_file stream i)
 unfolding mixed
 mixed_segment stream n i s pick ne = ap (λ (b : Bool). if b then s.seen (segment_file stream i) else pick (segment_file stream i)) (segment_out stream n i ne)
 
-mixed_index : (stream n i : ℕ) (s : DiskState) (pick : FileId → Image) → i ≢ n → mixed stream n s pick (index_file stream i) ≡ pick (index_file stream i)
+pub mixed_index : (stream n i : ℕ) (s : DiskState) (pick : FileId → Image) → i ≢ n → mixed stream n s pick (index_file stream i) ≡ pick (index_file stream i)
 unfolding mixed
 mixed_index stream n i s pick ne = ap (λ (b : Bool). if b then s.seen (index_file stream i) else pick (index_file stream i)) (index_out stream n i ne)
 
-mixed_here : (stream n : ℕ) (s : DiskState) (pick : FileId → Image) → mixed stream n s pick (index_file stream n) ≡ s.seen (index_file stream n)
+pub mixed_here : (stream n : ℕ) (s : DiskState) (pick : FileId → Image) → mixed stream n s pick (index_file stream n) ≡ s.seen (index_file stream n)
 unfolding mixed
 mixed_here stream n s pick = ap (λ (b : Bool). if b then s.seen (index_file stream n) else pick (index_file stream n)) (index_in stream n)
 

@@ -1,23 +1,21 @@
 -- Recovery's steps, one after the other.
-use Rattle.std.proofs.Common.{◌≡◌, ◌⊎◌, inl, inr, ℕ, ◌+◌, ◌≤◌, ◌<◌, ◌^◌, List, [], ◌∷◌, length, drop, get_or, Ok, Err, Result, refl, sym, ◌∙◌, ap, subst, arith}
+use Rattle.std.proofs.Common.{◌≡◌, ℕ, ◌+◌, ◌<◌, ◌^◌, List, [], length, drop, get_or, Ok, Err, Result, refl, sym, ◌∙◌, subst}
 use Rattle.std.specs.Prelude.{IfOk, IsErrOf, OnOk}
 use Rattle.disk_calls.specs.declared.file_id.FileId.{FileId}
 use Rattle.disk_calls.specs.Disk.{DiskState, Looks}
 use Rattle.chunk_format.specs.declared.chunk.Chunk.{Chunk}
 use Rattle.segment_pairs.specs.declared.look.Headless.{Headless}
 use Rattle.segment_pairs.specs.Log.{Finder}
-use Rattle.segment_pairs.specs.Held.{files_of, BesidesPair, EachLog, KeepsLog, OutsideLog, seen_log}
+use Rattle.segment_pairs.specs.Held.{files_of, BesidesPair, EachLog, KeepsLog, OutsideLog}
 use Rattle.segment_pairs.proofs.Many.{log_held}
-use Rattle.segment_pairs.proofs.Lifting.{outside_log, outside_then}
-use Rattle.segment_store.specs.declared.fault.StoreFault.{StoreFault}
 use Rattle.segment_store.specs.declared.fault.StoreFault.TheVariants as store
 use Rattle.segment_store.specs.declared.rows.ChunkAt.{ChunkAt}
-use Rattle.segment_store.specs.Recovery.{Adds, CanRecover, Clears, Ends, Exceeds, IsEnough, IsUneven, Listed, LogOrBefore, ReachedLast, Recovers, Restarts, SeenDamaged}
-use Rattle.segment_store.proofs.RecoveryGhosts.{looks_besides, looks_keep, looks_none, seen_same}
+use Rattle.segment_store.specs.Recovery.{Adds, Clears, Ends, Exceeds, IsEnough, IsUneven, LogOrBefore, ReachedLast, Recovers, Restarts, SeenDamaged}
+use Rattle.segment_store.proofs.RecoveryGhosts.{seen_same}
 use Rattle.segment_store.proofs.RecoveryNumbers.{next_number}
 use Rattle.segment_store.proofs.RecoveryFound.{LacksAt, ReadsAt, headless_log, read_log}
 use Rattle.segment_store.proofs.RecoveryLast.{WalksTo, last_keeps, last_recovers, restart_ends, recovers_from, walks_more, told_damage}
-use Rattle.segment_store.proofs.RecoveryDamage.{all_sound, broken_is, damaged_again, damaged_looks, damaged_looked, damaged_same, enough_looks, exceeds_looks, misplaced_is, spoilt_last, uneven_looks}
+use Rattle.segment_store.proofs.RecoveryDamage.{all_sound, broken_is, damaged_looks, enough_looks, exceeds_looks, misplaced_is, spoilt_last, uneven_looks}
 
 pub on_ok : {T E A B : Type 0} (result : Result T E) → (A → B) → OnOk result A → OnOk result B
 on_ok (Ok t) step a = step a

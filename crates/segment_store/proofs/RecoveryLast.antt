@@ -1,6 +1,6 @@
 -- What recovery makes of the last number, and how it comes there.
-use Rattle.std.proofs.Common.{◌≡◌, ◌⊎◌, inl, inr, ℕ, ◌+◌, ◌≤◌, ◌<◌, ◌^◌, List, [], ◌∷◌, ◌++◌, length, None, Err, refl, sym, ◌∙◌, ap, subst, arith}
-use Rattle.std.specs.Prelude.{Bool, true, false, IsErrOf, IsTrue, ◌↔◌}
+use Rattle.std.proofs.Common.{◌≡◌, ◌⊎◌, inl, inr, ℕ, ◌+◌, ◌<◌, ◌^◌, List, [], ◌∷◌, ◌++◌, length, Err, refl, sym, ◌∙◌, ap, subst, arith}
+use Rattle.std.specs.Prelude.{Bool, false, IsErrOf, IsTrue, ◌↔◌}
 use Rattle.std.proofs.lemmas.Bool.{cases_lt}
 use Rattle.std.proofs.lemmas.List.{append-nil}
 use Rattle.disk_calls.specs.declared.file_id.FileId.{FileId}
@@ -8,17 +8,16 @@ use Rattle.disk_calls.specs.Disk.{DiskState, Image, bytes_of, Looks}
 use Rattle.chunk_format.specs.declared.chunk.Chunk.{Chunk}
 use Rattle.chunk_format.specs.Logs.{end_from, end_of}
 use Rattle.segment_pairs.specs.declared.look.Headless.{Headless}
-use Rattle.segment_pairs.specs.Log.{Chain, Finder, Pair, pair_log}
-use Rattle.segment_pairs.specs.Held.{segment_file, index_file, Segment, all_chunks, files_of, EachPair, Missing, MissingFrom, Stands, HeldBelow, Held, BesidesPair, KeepsLog, GoneOrBefore, seen_log}
+use Rattle.segment_pairs.specs.Log.{Chain, Finder, pair_log}
+use Rattle.segment_pairs.specs.Held.{segment_file, index_file, Segment, all_chunks, files_of, EachPair, Missing, MissingFrom, Stands, HeldBelow, BesidesPair, KeepsLog, GoneOrBefore, seen_log}
 use Rattle.segment_pairs.proofs.Pairs.{end_from-append}
 use Rattle.segment_pairs.proofs.Making.{none_log, none_short}
 use Rattle.segment_pairs.proofs.Many.{log_tail}
 use Rattle.segment_pairs.proofs.Lifting.{held_stays, held_up, missing_from_stays, missing_more}
 use Rattle.segment_store.specs.declared.fault.StoreFault.TheVariants as store
 use Rattle.segment_store.specs.declared.rows.ChunkAt.{ChunkAt}
-use Rattle.segment_store.specs.Rows.{LogStands, IsFilled, rows_at, rows_of}
-use Rattle.segment_store.specs.Recovery.{Adds, Counts, Ends, Exceeds, IsSpoiltHead, IsUneven, Listed, LogOrBefore, Reached, ReachedLast, Recovers, Restarts}
-use Rattle.segment_store.proofs.Table.{filled_below}
+use Rattle.segment_store.specs.Rows.{IsFilled, rows_at}
+use Rattle.segment_store.specs.Recovery.{Adds, Ends, Exceeds, IsSpoiltHead, IsUneven, Listed, LogOrBefore, Reached, ReachedLast, Recovers, Restarts}
 use Rattle.segment_store.proofs.RecoveryNumbers.{missing_looks}
 use Rattle.segment_store.proofs.RecoveryFound.{LacksAt, ReadsAt, headless_exceeds, headless_uneven, read_exceeds, read_stands, read_uneven}
 use Rattle.segment_store.proofs.RecoveryGhosts.{besides_then, keeps_then, looks_keep, looks_besides, looks_same_log, picks_before}

@@ -1,5 +1,5 @@
 -- The numbers of segments, and the pass that removes those without records.
-use Rattle.std.proofs.Common.{◌≡◌, ◌≢◌, ◌⊎◌, inl, inr, ℕ, zero, suc, ◌+◌, ◌-◌, ◌≤◌, ◌<◌, ◌^◌, List, [], ◌∷◌, ◌++◌, length, take, drop, get_or, Option, Some, None, slice_get, Bool, true, false, refl, sym, ◌∙◌, ap, subst, arith, append_assoc, length-append, ◌==◌}
+use Rattle.std.proofs.Common.{◌≡◌, ◌≢◌, ◌⊎◌, inl, inr, ℕ, zero, suc, ◌+◌, ◌-◌, ◌≤◌, ◌<◌, ◌^◌, List, [], ◌∷◌, ◌++◌, length, take, drop, get_or, Some, None, slice_get, Bool, false, refl, sym, ◌∙◌, ap, subst, arith, append_assoc, ◌==◌}
 use Rattle.std.proofs.lemmas.Bool.{cases_eq, cases_lt}
 use Rattle.std.proofs.lemmas.List.{append-nil, take_more, take_all, drop_all, drop_more}
 use Rattle.std.proofs.lemmas.List.Elements.{Contains-append_left, Contains-append_right, Contains-append_cases, Contains-push, Contains-push_cases, All-nil, All-push, All-get_or, All-head, All-tail}
@@ -12,18 +12,16 @@ use Rattle.std.specs.List.{All, Contains, dedup}
 use Rattle.std.specs.List.Sorted.{IsPermutation, IsSorted, IsStrictlyIncreasing}
 use Rattle.std.specs.Ordering.{nat_cmp}
 use Rattle.disk_calls.specs.declared.file_id.FileId.{FileId}
-use Rattle.disk_calls.specs.declared.file_id.FileName.{FileName}
-use Rattle.disk_calls.specs.declared.file_id.FileName.TheVariants as name
 use Rattle.disk_calls.specs.declared.disk.DiskSize.TheVariants as disk_size
 use Rattle.disk_calls.specs.Disk.{DiskState, Image, bytes_of, Looks, IsThere, AreNames, Sizes}
 use Rattle.segment_pairs.specs.Log.{Pair}
-use Rattle.segment_pairs.specs.Held.{segment_file, index_file, files_of, Missing, MissingFrom, BesidesPair, KeepsLog, GoneOrBefore}
+use Rattle.segment_pairs.specs.Held.{segment_file, index_file, files_of, Missing, BesidesPair, KeepsLog, GoneOrBefore}
 use Rattle.segment_pairs.proofs.Making.{none_short}
-use Rattle.segment_pairs.proofs.Lifting.{missing_stays, missing_if, other_index}
+use Rattle.segment_pairs.proofs.Lifting.{missing_stays, other_index}
 use Rattle.segment_pairs.proofs.Moving.{apart_back}
 use Rattle.segment_store.specs.Recovery.{AddsNumber, AreNumbers, Clears, Covers, HasNumbers, HasRecords, Listed, NoneReturns, Rising, SameOrNone, Sifts, number_of}
 use Rattle.segment_store.proofs.Table.{get_behind, get_front}
-use Rattle.segment_store.proofs.RecoveryGhosts.{ghost_keeps, keeps_then, looks_keep, looks_besides, none_seen, same_besides, same_keeps, same_looks}
+use Rattle.segment_store.proofs.RecoveryGhosts.{ghost_keeps, keeps_then, looks_keep, none_seen, same_besides, same_keeps, same_looks}
 
 -- ---- rising numbers
 
@@ -194,7 +192,7 @@ clears_drop stream n kept rest s t u law law_after none besides moved gone clear
     }
 
 -- one that is sifted
-sift_short : (stream n : ℕ) (t : DiskState) → (HasRecords stream t n → ⊥) → length (bytes_of (t.seen (index_file stream n))) ≤ 8
+pub sift_short : (stream n : ℕ) (t : DiskState) → (HasRecords stream t n → ⊥) → length (bytes_of (t.seen (index_file stream n))) ≤ 8
 sift_short stream n t none = elim (cases_lt 8 (length (bytes_of (t.seen (index_file stream n))))) [ inl more ↦ absurd (none more) | inr le ↦ le ]
 
 pub sift_keeps : (stream n : ℕ) (s t u : DiskState) → ((f : FileId) → t.images f (t.seen f)) → Looks s t → (HasRecords stream s n → ⊥) → BesidesPair stream n t u → GoneOrBefore stream n t u → KeepsLog stream s u

@@ -14,7 +14,7 @@ use Rattle.gated_words.specs.Files.{Damages, Files, Opens, PairsOf, second_file,
 use Rattle.gated_words.specs.InHand.{InHand}
 use Rattle.gated_words.specs.Backing.{Backs, KeepsPairs}
 use Rattle.segment_pairs.specs.Log.{LogOf}
-use Rattle.segment_pairs.specs.Held.{segment_file, index_file, Segment, Picks, files_of, KeepsLog, OutsideLog}
+use Rattle.segment_pairs.specs.Held.{segment_file, index_file, Picks, files_of, KeepsLog, OutsideLog}
 use Rattle.segment_store.specs.Rows.{LogStands}
 use Rattle.segment_store.specs.Recovery.{Recovers}
 use Rattle.segment_store.specs.Logs.{LogInHand}
@@ -60,14 +60,19 @@ file_picked stream of s t pick stays picks reads same name.PromiseTwo = reads (r
 file_picked stream of s t pick stays picks reads same name.EpochsTwo = reads (record { stream = of; file = name.EpochsTwo })
 file_picked stream of s t pick stays picks reads same name.CatalogWordsTwo = reads (record { stream = of; file = name.CatalogWordsTwo })
 
-keeps_log_while : (stream : ℕ) (s t : DiskState) → ((f : FileId) → s.images f (s.seen f)) → LogStays stream s t → KeepsLog stream s t
-keeps_log_while stream s t reads stays pick picks = (log_mixed stream s pick, mixed, (λ F i. LogOf F (λ n. mixed_files stream s pick n i)))
+pub files_while : (stream : ℕ) (s t : DiskState) → ((f : FileId) → s.images f (s.seen f)) → LogStays stream s t → (pick : FileId → Image) → Picks t pick → (before : FileId → Image) × Picks s before × (files_of stream pick ≡ files_of stream before)
+files_while stream s t reads stays pick picks = (log_mixed stream s pick, mixed, (λ i n. mixed_files stream s pick n i))
   where
     mixed : Picks s (log_mixed stream s pick)
     mixed f = elim (cases_eq f.stream stream) [
       | inl same ↦ subst (λ (x : Image). s.images f x) (sym (mixed_same stream s pick f same)) (file_picked stream f.stream s t pick stays picks reads same f.file)
       | inr apart ↦ subst (λ (x : Image). s.images f x) (sym (mixed_apart stream s pick f apart)) (reads f)
     ]
+
+keeps_log_while : (stream : ℕ) (s t : DiskState) → ((f : FileId) → s.images f (s.seen f)) → LogStays stream s t → KeepsLog stream s t
+keeps_log_while stream s t reads stays pick picks =
+    let found = files_while stream s t reads stays pick picks in
+    (found.0, found.1, (λ F. ap (LogOf F) found.2))
 
 -- recovery of the log leaves the promises
 pub log_keeps : (stream : ℕ) (s m : DiskState) → KeepsLog stream s m → OutsideLog stream s m → KeepsStore stream s m

@@ -6,3 +6,4 @@ pub mod Faults
 pub mod Logs
 pub mod Stores
 pub mod Recovery
+pub mod Recoverable

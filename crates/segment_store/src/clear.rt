@@ -1,8 +1,10 @@
 //! The numbers of the segments of a log, and the removal of those without records.
 
-ghost use Rattle.std.specs.Prelude.{◌≡◌, ◌↔◌, IsTrue, IfOk, IfSome, IsErrOf, OnOk, None, ℕ};
+ghost use Rattle.std.specs.Prelude.{◌≡◌, ◌<◌, ◌↔◌, IsTrue, IfOk, IfSome, IsErrOf, OnOk, None, ℕ};
 ghost use Rattle.disk_calls.specs.Disk.{HasCause, Looks};
 ghost use Rattle.segment_pairs.specs.Held.{BesidesPair, GoneOrBefore, KeepsLog, Missing, OutsideLog};
+ghost use Rattle.segment_pairs.specs.Left.{EachLeft};
+ghost use Rattle.segment_store.specs.Recoverable.{LogRecoverable};
 ghost use Rattle.segment_store.specs.Recovery.{AddsNumber, AreNumbers, Clears, Covers, HasNumbers, HasRecords, Rising, Sifts, number_of};
 
 use crate::fault::StoreFault;
@@ -77,6 +79,7 @@ fn has_records<D: Disk>(disk: &mut D, stream: u32, number: u64) -> Option<bool>
 // Removes a segment, its index first.
 fn remove_number<D: Disk>(disk: &mut D, stream: u32, number: u64) -> Result<(), StoreFault>
     ensures images { GoneOrBefore stream number (D.state disk.old) (D.state disk.new) }
+    ensures left { D.tells → EachLeft stream number (D.state disk.old) → EachLeft stream number (D.state disk.new) }
     ensures done { D.tells → OnOk result (Missing stream number (D.state disk.new)) }
     ensures others { BesidesPair stream number (D.state disk.old) (D.state disk.new) }
     ensures undamaged { (segment at : ℕ) → IsErrOf result (StoreFault.Damaged segment at) → ⊥ }
@@ -98,6 +101,7 @@ fn sift_number<D: Disk>(
 ) -> Result<(), StoreFault>
     ensures images { D.tells → KeepsLog stream (D.state disk.old) (D.state disk.new) }
     ensures sifts { D.tells → OnOk result (Sifts stream number kept.old.items kept.new.items (D.state disk.old) (D.state disk.new)) }
+    ensures recoverable { D.tells → 0 < number → LogRecoverable stream (D.state disk.old) → LogRecoverable stream (D.state disk.new) }
     ensures others { BesidesPair stream number (D.state disk.old) (D.state disk.new) }
     ensures undamaged { (segment at : ℕ) → IsErrOf result (StoreFault.Damaged segment at) → ⊥ }
     ensures unworded { (place : ℕ) → IsErrOf result (StoreFault.DamagedWords place) → ⊥ }
@@ -125,6 +129,7 @@ pub(crate) fn clear_numbers<D: Disk>(
     requires covers { D.tells → Covers stream numbers.now (D.state disk.old) }
     ensures images { D.tells → KeepsLog stream (D.state disk.old) (D.state disk.new) }
     ensures clears { D.tells → IfOk result (λ kept. Clears stream (D.state disk.old) (D.state disk.new) kept.items) }
+    ensures recoverable { D.tells → LogRecoverable stream (D.state disk.old) → LogRecoverable stream (D.state disk.new) }
     ensures others { OutsideLog stream (D.state disk.old) (D.state disk.new) }
     ensures undamaged { (segment at : ℕ) → IsErrOf result (StoreFault.Damaged segment at) → ⊥ }
     ensures unworded { (place : ℕ) → IsErrOf result (StoreFault.DamagedWords place) → ⊥ }

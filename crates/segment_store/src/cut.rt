@@ -4,6 +4,7 @@ ghost use Rattle.std.specs.Prelude.{◌≡◌, ◌∷◌, List, ℕ, length, sli
 ghost use Rattle.disk_calls.specs.Disk.{HasCause};
 ghost use Rattle.segment_pairs.specs.Held.{Segment, EachLog, OutsideLog, all_chunks};
 ghost use Rattle.epoch_coordinator.specs.MemberSteps.{cut_at};
+ghost use Rattle.segment_store.specs.Recoverable.{LogRecoverable};
 ghost use Rattle.segment_store.specs.Rows.{LogStands, FrontEnds, CanTrim, Dropped, NoneBehind, IsBehind};
 ghost use Rattle.segment_store.specs.Jobs.{Between};
 
@@ -23,6 +24,7 @@ pub(crate) fn cut_log<D: Disk>(
     requires { D.tells → (segments : List Segment) × (kept : ℕ) × LogStands stream rows.old.items segments (D.state disk.old) × FrontEnds rows.old.items kept end }
     ensures images { D.tells → (segments : List Segment) (kept : ℕ) → LogStands stream rows.old.items segments (D.state disk.old) → FrontEnds rows.old.items kept end → EachLog stream (Between end (all_chunks segments)) (D.state disk.new) }
     ensures done { D.tells → result ≡ DiskDid.Done → (segments : List Segment) (kept : ℕ) → LogStands stream rows.old.items segments (D.state disk.old) → FrontEnds rows.old.items kept end → (now : List Segment) × LogStands stream rows.new.items now (D.state disk.new) × (all_chunks now ≡ cut_at end (all_chunks segments)) }
+    ensures recoverable { D.tells → LogRecoverable stream (D.state disk.new) }
     ensures others { OutsideLog stream (D.state disk.old) (D.state disk.new) }
     ensures cause { HasCause (result ≡ DiskDid.Failed) (D.state disk.old) (D.state disk.new) }
 {
@@ -37,6 +39,7 @@ fn drop_segments<D: Disk>(disk: &mut D, stream: u32, rows: &mut Vec<ChunkAt>, en
     requires { D.tells → (segments : List Segment) × (kept : ℕ) × LogStands stream rows.old.items segments (D.state disk.old) × FrontEnds rows.old.items kept end }
     ensures images { D.tells → (segments : List Segment) (kept : ℕ) → LogStands stream rows.old.items segments (D.state disk.old) → FrontEnds rows.old.items kept end → EachLog stream (Between end (all_chunks segments)) (D.state disk.new) }
     ensures done { D.tells → result ≡ DiskDid.Done → (segments : List Segment) (kept : ℕ) → LogStands stream rows.old.items segments (D.state disk.old) → FrontEnds rows.old.items kept end → Dropped stream end kept rows.new.items segments (D.state disk.new) }
+    ensures recoverable { D.tells → LogRecoverable stream (D.state disk.new) }
     ensures others { OutsideLog stream (D.state disk.old) (D.state disk.new) }
     ensures cause { HasCause (result ≡ DiskDid.Failed) (D.state disk.old) (D.state disk.new) }
 {
@@ -82,6 +85,7 @@ fn trim_chunks<D: Disk>(disk: &mut D, stream: u32, rows: &mut Vec<ChunkAt>, end:
     requires { D.tells → (last : Segment) × (older : List Segment) × (kept : ℕ) × CanTrim stream end kept rows.old.items last older (D.state disk.old) }
     ensures images { D.tells → (last : Segment) (older : List Segment) (kept : ℕ) → CanTrim stream end kept rows.old.items last older (D.state disk.old) → EachLog stream (Between end (all_chunks (last ∷ older))) (D.state disk.new) }
     ensures done { D.tells → result ≡ DiskDid.Done → (last : Segment) (older : List Segment) (kept : ℕ) → CanTrim stream end kept rows.old.items last older (D.state disk.old) → (now : List Segment) × LogStands stream rows.new.items now (D.state disk.new) × (all_chunks now ≡ cut_at end (all_chunks (last ∷ older))) }
+    ensures recoverable { D.tells → LogRecoverable stream (D.state disk.new) }
     ensures others { OutsideLog stream (D.state disk.old) (D.state disk.new) }
     ensures cause { HasCause (result ≡ DiskDid.Failed) (D.state disk.old) (D.state disk.new) }
 {

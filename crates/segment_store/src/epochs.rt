@@ -4,7 +4,7 @@ ghost use Rattle.std.specs.Prelude.{◌≡◌, ◌++◌, ◌∷◌, [], ℕ, Lis
 ghost use Rattle.disk_calls.specs.Disk.{HasCause};
 ghost use Rattle.disk_calls.specs.Frames.{Besides};
 ghost use Rattle.gated_words.specs.Files.{Damages, Opens, PairsOf, seen_files, second_file};
-ghost use Rattle.gated_words.specs.Backing.{Backs, EachHas, KeepsPairs, MayAdd};
+ghost use Rattle.gated_words.specs.Backing.{Backs, EachBoth, EachHas, KeepsPairs, MayAdd};
 ghost use Rattle.segment_store.specs.Words.{epochs_file, word_of, EachWord};
 
 use crate::fault::StoreFault;
@@ -53,6 +53,7 @@ impl EpochStore {
     pub fn recover<D: Disk>(alloc: Global, disk: &mut D) -> Result<EpochStore, StoreFault>
         // After each answer.
         ensures images { D.tells → KeepsPairs epochs_file (D.state disk.old) (D.state disk.new) }
+        ensures recoverable { D.tells → EachBoth epochs_file Opens (D.state disk.old) → EachBoth epochs_file Opens (D.state disk.new) }
         ensures others { Besides epochs_file (second_file epochs_file) (D.state disk.old) (D.state disk.new) }
 
         ensures epochs { D.tells → (stream : ℕ) → IfOk result (λ s. word_of stream s.pairs ≡ word_of stream (PairsOf (seen_files epochs_file (D.state disk.old)))) }
@@ -98,6 +99,7 @@ impl EpochStore {
 
         // After each answer.
         ensures images { D.tells → MayAdd self.old.id (stream, epoch) (D.state disk.old) (D.state disk.new) }
+        ensures recoverable { D.tells → EachBoth self.old.id Opens (D.state disk.new) }
         ensures backs { D.tells → Backs self.new (D.state disk.new) }
         ensures id { self.new.id ≡ self.old.id }
         ensures others { Besides self.old.id (second_file self.old.id) (D.state disk.old) (D.state disk.new) }

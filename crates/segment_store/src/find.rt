@@ -4,6 +4,7 @@ ghost use Rattle.std.specs.Prelude.{◌≡◌, ℕ, IfOk, IsErrOf, OnOk};
 ghost use Rattle.disk_calls.specs.Disk.{HasCause, Looks};
 ghost use Rattle.segment_pairs.specs.Log.{Finder};
 ghost use Rattle.segment_pairs.specs.Held.{EachLog, KeepsLog, OutsideLog};
+ghost use Rattle.segment_store.specs.Recoverable.{LogRecoverable};
 ghost use Rattle.segment_store.specs.Recovery.{CanRecover, Covers, NoneReturns, Recovers, Rising, SeenDamaged};
 
 use crate::clear::{clear_numbers, numbers_of};
@@ -36,6 +37,7 @@ fn find_log<D: Disk>(alloc: Global, disk: &mut D, stream: u32) -> Result<Found, 
     requires { D.tells → NoneReturns stream (D.state disk.old) }
     ensures images { D.tells → KeepsLog stream (D.state disk.old) (D.state disk.new) }
     ensures recovers { D.tells → IfOk result (λ found. Recovers stream found.rows.items found.chunks.items (D.state disk.old) (D.state disk.new)) }
+    ensures recoverable { D.tells → LogRecoverable stream (D.state disk.old) → LogRecoverable stream (D.state disk.new) }
     ensures damaged { D.tells → (F : Finder) (segment at : ℕ) → IsErrOf result (StoreFault.Damaged segment at) → SeenDamaged F stream (D.state disk.old) segment at }
     ensures sound { D.tells → (F : Finder) (segment at : ℕ) → OnOk result (SeenDamaged F stream (D.state disk.old) segment at → ⊥) }
     ensures unworded { (place : ℕ) → IsErrOf result (StoreFault.DamagedWords place) → ⊥ }
@@ -67,6 +69,7 @@ pub(crate) fn recover_log<D: Disk>(
     ensures images { D.tells → KeepsLog stream (D.state disk.old) (D.state disk.new) }
     ensures recovers { D.tells → IfOk result (λ r. Recovers stream r.log.rows r.chunks.items (D.state disk.old) (D.state disk.new)) }
     ensures exact { D.tells → IfOk result (λ r. EachLog stream (λ log. log ≡ r.chunks.items) (D.state disk.new)) }
+    ensures recoverable { D.tells → LogRecoverable stream (D.state disk.old) → LogRecoverable stream (D.state disk.new) }
     ensures stream { IfOk result (λ r. r.log.stream ≡ stream) }
     ensures damaged { D.tells → (F : Finder) (segment at : ℕ) → IsErrOf result (StoreFault.Damaged segment at) → SeenDamaged F stream (D.state disk.old) segment at }
     ensures sound { D.tells → (F : Finder) (segment at : ℕ) → OnOk result (SeenDamaged F stream (D.state disk.old) segment at → ⊥) }

@@ -11,6 +11,7 @@ ghost use Rattle.segment_pairs.specs.Log.{Finder};
 ghost use Rattle.segment_pairs.specs.Held.{Segment, EachLog, seen_log};
 ghost use Rattle.segment_store.specs.Rows.{grown};
 ghost use Rattle.segment_store.specs.Words.{word_of};
+ghost use Rattle.segment_store.specs.Recoverable.{Recoverable};
 ghost use Rattle.segment_store.specs.Recovery.{CanRecover, NoneReturns, SeenDamaged};
 ghost use Rattle.segment_store.specs.Logs.{LogEnds, EndsChunk};
 ghost use Rattle.segment_store.specs.Stores.{BackedStore, Continues, EachHolds, EachPromise, EndsRise, JobLeaves, KeepsStore, LogBetween, PromiseBetween, SameKeeper, StandsAfter, StoreStands, log_after, promise_after, promise_file, promise_of};
@@ -85,7 +86,8 @@ impl MemberStore {
     /// log: a segment does not begin where the log before it ends, one that is not the last is not its chunks and nothing
     /// else, or behind those of the last more stands than one record of its index, or segment 0 or its index has another
     /// header of more than 8 bytes. `DamagedWords` comes exactly where no crash leaves such files of promises, `Disk` only
-    /// where the disk failed, and `Memory` for want of memory.
+    /// where the disk failed, and `Memory` for want of memory. `Damaged` and `DamagedWords` never come where no image of
+    /// the files is damaged, which jobs, recovery and crashes keep (`recoverable_files_recover`).
     ///
     /// A number of a segment of which no file is seen must have no index that a crash brings back.
     pub fn recover<D: Disk>(
@@ -98,6 +100,7 @@ impl MemberStore {
 
         // After each answer.
         ensures images { D.tells → KeepsStore stream (D.state disk.old) (D.state disk.new) }
+        ensures recoverable { D.tells → Recoverable stream (D.state disk.old) → Recoverable stream (D.state disk.new) }
         ensures others { OtherStreams stream (D.state disk.old) (D.state disk.new) }
 
         ensures backed { D.tells → IfOk result (λ r. BackedStore r.store r.recovered.chunks (D.state disk.new)) }
@@ -191,6 +194,7 @@ impl MemberStore {
         // After each answer.
         ensures log { D.tells → (chunks : List Chunk) → BackedStore self.old chunks (D.state disk.old) → EachLog self.old.stream (LogBetween job.now chunks) (D.state disk.new) }
         ensures promise { D.tells → (chunks : List Chunk) → BackedStore self.old chunks (D.state disk.old) → EachPromise self.old.stream (PromiseBetween job.now (promise_of self.old)) (D.state disk.new) }
+        ensures recoverable { D.tells → Recoverable self.old.stream (D.state disk.new) }
         ensures others { OtherStreams self.old.stream (D.state disk.old) (D.state disk.new) }
         ensures keeper { SameKeeper self.old self.new }
 
@@ -215,6 +219,7 @@ impl MemberStore {
         requires continues { Continues self.old job.now }
         requires backed { D.tells → (segments : List Segment) × StoreStands self.old segments (D.state disk.old) }
         ensures leaves { D.tells → (segments : List Segment) → StoreStands self.old segments (D.state disk.old) → JobLeaves job.now self.old segments (D.state disk.new) }
+        ensures recoverable { D.tells → Recoverable self.old.stream (D.state disk.new) }
         ensures done { D.tells → (segments : List Segment) → StoreStands self.old segments (D.state disk.old) → OnOk result (StandsAfter job.now segments self.new (D.state disk.new)) }
         ensures promised { OnOk result (promise_of self.new ≡ promise_after job.now (promise_of self.old)) }
         ensures others { OtherStreams self.old.stream (D.state disk.old) (D.state disk.new) }
@@ -237,6 +242,7 @@ impl MemberStore {
         requires follows { LogEnds self.old.log chunk.now.first }
         requires backed { D.tells → (segments : List Segment) × StoreStands self.old segments (D.state disk.old) }
         ensures leaves { D.tells → (segments : List Segment) → StoreStands self.old segments (D.state disk.old) → JobLeaves (Write chunk.now) self.old segments (D.state disk.new) }
+        ensures recoverable { D.tells → Recoverable self.old.stream (D.state disk.new) }
         ensures done { D.tells → (segments : List Segment) → StoreStands self.old segments (D.state disk.old) → OnOk result (StoreStands self.new (grown segments chunk.now) (D.state disk.new)) }
         ensures promised { promise_of self.new ≡ promise_of self.old }
         ensures others { OtherStreams self.old.stream (D.state disk.old) (D.state disk.new) }
@@ -254,6 +260,7 @@ impl MemberStore {
         requires ends { EndsChunk self.old.log end }
         requires backed { D.tells → (segments : List Segment) × StoreStands self.old segments (D.state disk.old) }
         ensures leaves { D.tells → (segments : List Segment) → StoreStands self.old segments (D.state disk.old) → JobLeaves (Cut end) self.old segments (D.state disk.new) }
+        ensures recoverable { D.tells → Recoverable self.old.stream (D.state disk.new) }
         ensures done { D.tells → (segments : List Segment) → StoreStands self.old segments (D.state disk.old) → OnOk result (StandsAfter (Cut end) segments self.new (D.state disk.new)) }
         ensures promised { promise_of self.new ≡ promise_of self.old }
         ensures others { OtherStreams self.old.stream (D.state disk.old) (D.state disk.new) }
@@ -271,6 +278,7 @@ impl MemberStore {
     fn put<D: Disk>(&mut self, disk: &mut D, epoch: u64) -> Result<(), StoreFault>
         requires { D.tells → (segments : List Segment) × StoreStands self.old segments (D.state disk.old) }
         ensures leaves { D.tells → (segments : List Segment) → StoreStands self.old segments (D.state disk.old) → JobLeaves (Promise epoch) self.old segments (D.state disk.new) }
+        ensures recoverable { D.tells → Recoverable self.old.stream (D.state disk.new) }
         ensures done { D.tells → (segments : List Segment) → StoreStands self.old segments (D.state disk.old) → OnOk result (StoreStands self.new segments (D.state disk.new)) }
         ensures promised { OnOk result (promise_of self.new ≡ epoch) }
         ensures others { OtherStreams self.old.stream (D.state disk.old) (D.state disk.new) }

@@ -6,6 +6,8 @@ ghost use Rattle.chunk_format.specs.declared.chunk.Chunk.{Chunk};
 ghost use Rattle.segment_pairs.specs.Log.{Finder};
 ghost use Rattle.segment_pairs.specs.Held.{BesidesPair, EachPair, FoundTorn, KeepsLog, OutsideLog, Stands, files_of};
 ghost use Rattle.segment_pairs.specs.Found.{ShowsAt};
+ghost use Rattle.segment_pairs.specs.Left.{EachLeft};
+ghost use Rattle.segment_store.specs.Recoverable.{LogRecoverable};
 ghost use Rattle.segment_store.specs.Recovery.{Ends, Exceeds, IsEnough, IsSpoiltHead, Listed, LogOrBefore, ReachedLast, Recovers, Restarts, SeenDamaged};
 
 use crate::fault::StoreFault;
@@ -21,6 +23,7 @@ const RECORD: u64 = 29;
 fn restart<D: Disk>(disk: &mut D, stream: u32, number: u64) -> DiskDid
     ensures images { D.tells → LogOrBefore stream number [] (D.state disk.old) (D.state disk.new) }
     ensures done { D.tells → result ≡ DiskDid.Done → Restarts stream number (D.state disk.new) }
+    ensures left { D.tells → EachLeft stream number (D.state disk.old) → EachLeft stream number (D.state disk.new) }
     ensures others { BesidesPair stream number (D.state disk.old) (D.state disk.new) }
     ensures cause { HasCause (result ≡ DiskDid.Failed) (D.state disk.old) (D.state disk.new) }
 {
@@ -45,6 +48,7 @@ fn settle<D: Disk>(
 ) -> DiskDid
     requires { D.tells → (cs : List Chunk) × (t : FoundTorn stream number cs place index_place (D.state disk.old)) × (size ≡ place + length t.rest) × (index_size ≡ index_place + length t.index_rest) }
     ensures images { D.tells → (cs : List Chunk) → FoundTorn stream number cs place index_place (D.state disk.old) → EachPair stream number (λ l. l ≡ cs) (D.state disk.new) }
+    ensures left { D.tells → (cs : List Chunk) → FoundTorn stream number cs place index_place (D.state disk.old) → EachLeft stream number (D.state disk.new) }
     ensures done { D.tells → result ≡ DiskDid.Done → (cs : List Chunk) (t : FoundTorn stream number cs place index_place (D.state disk.old)) → size ≡ place + length t.rest → index_size ≡ index_place + length t.index_rest → Stands stream (record { number = number; chunks = cs }) (D.state disk.new) }
     ensures others { BesidesPair stream number (D.state disk.old) (D.state disk.new) }
     ensures cause { HasCause (result ≡ DiskDid.Failed) (D.state disk.old) (D.state disk.new) }
@@ -81,6 +85,7 @@ fn end_headless<D: Disk>(
     requires { D.tells → ShowsAt stream number (D.state disk.old) (Seen.Headless seen.now) }
     ensures images { D.tells → LogOrBefore stream number [] (D.state disk.old) (D.state disk.new) }
     ensures restarts { D.tells → OnOk result (Restarts stream number (D.state disk.new)) }
+    ensures left { D.tells → EachLeft stream number (D.state disk.old) → EachLeft stream number (D.state disk.new) }
     ensures damaged { D.tells → (segment at : ℕ) → IsErrOf result (StoreFault.Damaged segment at) → (segment ≡ number) × Exceeds number (files_of stream (D.state disk.old).seen number) at }
     ensures sound { D.tells → OnOk result (IsEnough number (files_of stream (D.state disk.old).seen number)) }
     ensures unworded { (place : ℕ) → IsErrOf result (StoreFault.DamagedWords place) → ⊥ }
@@ -117,6 +122,7 @@ fn end_chunks<D: Disk>(
     requires { D.tells → ShowsAt stream number (D.state disk.old) (Seen.Chunks walk) }
     ensures images { D.tells → LogOrBefore stream number walk.chunks (D.state disk.old) (D.state disk.new) }
     ensures ends { D.tells → OnOk result (Ends stream number walk.chunks found.old.rows.items found.new.rows.items found.old.chunks.items found.new.chunks.items (D.state disk.new)) }
+    ensures left { D.tells → EachLeft stream number (D.state disk.old) → EachLeft stream number (D.state disk.new) }
     ensures damaged { D.tells → (segment at : ℕ) → IsErrOf result (StoreFault.Damaged segment at) → (segment ≡ number) × Exceeds number (files_of stream (D.state disk.old).seen number) at }
     ensures sound { D.tells → OnOk result (IsEnough number (files_of stream (D.state disk.old).seen number)) }
     ensures unworded { (place : ℕ) → IsErrOf result (StoreFault.DamagedWords place) → ⊥ }
@@ -162,6 +168,7 @@ fn end_recovery<D: Disk>(
     requires { D.tells → ReachedLast stream number found.old.rows.items found.old.chunks.items (D.state disk.old) }
     ensures images { D.tells → KeepsLog stream (D.state disk.old) (D.state disk.new) }
     ensures recovers { D.tells → OnOk result (Recovers stream found.new.rows.items found.new.chunks.items (D.state disk.old) (D.state disk.new)) }
+    ensures recoverable { D.tells → LogRecoverable stream (D.state disk.old) → LogRecoverable stream (D.state disk.new) }
     ensures damaged { D.tells → (F : Finder) (segment at : ℕ) → IsErrOf result (StoreFault.Damaged segment at) → SeenDamaged F stream (D.state disk.old) segment at }
     ensures sound { D.tells → (F : Finder) (segment at : ℕ) → OnOk result (SeenDamaged F stream (D.state disk.old) segment at → ⊥) }
     ensures unworded { (place : ℕ) → IsErrOf result (StoreFault.DamagedWords place) → ⊥ }
@@ -186,6 +193,7 @@ pub(crate) fn read_log<D: Disk>(
     requires { D.tells → Listed stream 1 numbers.now (D.state disk.old) }
     ensures images { D.tells → KeepsLog stream (D.state disk.old) (D.state disk.new) }
     ensures recovers { D.tells → IfOk result (λ found. Recovers stream found.rows.items found.chunks.items (D.state disk.old) (D.state disk.new)) }
+    ensures recoverable { D.tells → LogRecoverable stream (D.state disk.old) → LogRecoverable stream (D.state disk.new) }
     ensures damaged { D.tells → (F : Finder) (segment at : ℕ) → IsErrOf result (StoreFault.Damaged segment at) → SeenDamaged F stream (D.state disk.old) segment at }
     ensures sound { D.tells → (F : Finder) (segment at : ℕ) → OnOk result (SeenDamaged F stream (D.state disk.old) segment at → ⊥) }
     ensures unworded { (place : ℕ) → IsErrOf result (StoreFault.DamagedWords place) → ⊥ }

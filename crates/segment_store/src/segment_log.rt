@@ -3,7 +3,9 @@
 ghost use Rattle.std.specs.Prelude.{◌≡◌, ◌∷◌, [], List, ℕ, IfOk, IsErrOf, IsTrue, OnOk};
 ghost use Rattle.disk_calls.specs.Disk.{HasCause};
 ghost use Rattle.epoch_coordinator.specs.MemberSteps.{cut_at};
-ghost use Rattle.segment_pairs.specs.Held.{Segment, EachLog, OldOrNew, OutsideLog, all_chunks};
+ghost use Rattle.segment_pairs.specs.Held.{Segment, EachLog, OldOrNew, OutsideLog, all_chunks, segment_file};
+ghost use Rattle.disk_calls.specs.Frames.{AtMost, EachImage};
+ghost use Rattle.segment_store.specs.Recoverable.{LogRecoverable};
 ghost use Rattle.segment_store.specs.Rows.{grown};
 ghost use Rattle.segment_store.specs.Jobs.{Between};
 ghost use Rattle.segment_store.specs.Logs.{Standing, LogEnds, EndsChunk, NoLog};
@@ -50,6 +52,7 @@ impl SegmentLog {
         requires { D.tells → NoLog stream (D.state disk.old) }
         ensures images { D.tells → EachLog stream (λ log. log ≡ []) (D.state disk.new) }
         ensures stands { D.tells → IfOk result (λ log. Standing log (record { number = 0; chunks = [] } ∷ []) (D.state disk.new)) }
+        ensures recoverable { D.tells → EachImage (segment_file stream 0) (AtMost 8) (D.state disk.old) → LogRecoverable stream (D.state disk.new) }
         ensures stream { IfOk result (λ log. log.stream ≡ stream) }
         ensures others { OutsideLog stream (D.state disk.old) (D.state disk.new) }
         ensures cause { HasCause (IsErrOf result StoreFault.Disk) (D.state disk.old) (D.state disk.new) }
@@ -105,6 +108,7 @@ impl SegmentLog {
         requires stands { D.tells → (segments : List Segment) × Standing self.old segments (D.state disk.old) }
         ensures images { D.tells → (segments : List Segment) → Standing self.old segments (D.state disk.old) → EachLog self.old.stream (OldOrNew (all_chunks segments) chunk.now) (D.state disk.new) }
         ensures done { D.tells → (segments : List Segment) → Standing self.old segments (D.state disk.old) → OnOk result (Standing self.new (grown segments chunk.now) (D.state disk.new)) }
+        ensures recoverable { D.tells → LogRecoverable self.old.stream (D.state disk.new) }
         ensures memory { IsErrOf result StoreFault.Memory → (self.new ≡ self.old) × (disk.new ≡ disk.old) }
         ensures stream { self.new.stream ≡ self.old.stream }
         ensures others { OutsideLog self.old.stream (D.state disk.old) (D.state disk.new) }
@@ -126,6 +130,7 @@ impl SegmentLog {
         requires { D.tells → (segments : List Segment) × Standing self.old segments (D.state disk.old) × EndsChunk self.old end }
         ensures images { D.tells → (segments : List Segment) → Standing self.old segments (D.state disk.old) → EachLog self.old.stream (Between end (all_chunks segments)) (D.state disk.new) }
         ensures done { D.tells → result ≡ DiskDid.Done → (segments : List Segment) → Standing self.old segments (D.state disk.old) → (now : List Segment) × Standing self.new now (D.state disk.new) × (all_chunks now ≡ cut_at end (all_chunks segments)) }
+        ensures recoverable { D.tells → LogRecoverable self.old.stream (D.state disk.new) }
         ensures stream { self.new.stream ≡ self.old.stream }
         ensures others { OutsideLog self.old.stream (D.state disk.old) (D.state disk.new) }
         ensures cause { HasCause (result ≡ DiskDid.Failed) (D.state disk.old) (D.state disk.new) }

@@ -6,8 +6,10 @@ ghost use Rattle.disk_calls.specs.Frames.{OtherStreams};
 ghost use Rattle.chunk_format.specs.declared.chunk.Chunk.{Chunk};
 ghost use Rattle.epoch_coordinator.specs.declared.message.Job.{Job};
 ghost use Rattle.segment_pairs.specs.Log.{Finder};
-ghost use Rattle.segment_store.specs.Recovery.{NoneReturns};
-ghost use Rattle.segment_store.specs.Stores.{BackedStore, Continues, ContinuesLog, EachHolds, EndsRise, KeepsStore, StoreInHand, promise_of};
+ghost use Rattle.gated_words.specs.Files.{Opens, seen_files};
+ghost use Rattle.segment_store.specs.Recoverable.{NoFiles, Recoverable};
+ghost use Rattle.segment_store.specs.Recovery.{CanRecover, NoneReturns};
+ghost use Rattle.segment_store.specs.Stores.{BackedStore, Continues, ContinuesLog, EachHolds, EndsRise, KeepsStore, StoreInHand, promise_file, promise_of};
 
 use disk_calls::Disk;
 
@@ -42,9 +44,24 @@ pub fn jobs_continue_logs<D: Disk>()
 {}
 
 /// A member's store may be recovered after a crash, and then while calls only look or only other streams' files change: a
-/// number of a segment of which no file is seen has no index that comes back. It does nothing.
+/// number of a segment of which no file is seen has no index that comes back. It may be where a store is in hand. It does
+/// nothing.
 pub fn recovery_may_begin<D: Disk>()
+    ensures store { D.tells → (store : StoreInHand) (chunks : List Chunk) (d : D) → BackedStore store chunks (D.state d) → NoneReturns store.stream (D.state d) }
     ensures crash { (stream : ℕ) (old new : D) → LeftByCrash stream (D.state old) (D.state new) → NoneReturns stream (D.state new) }
     ensures looks { (stream : ℕ) (old new : D) → Looks (D.state old) (D.state new) → NoneReturns stream (D.state old) → NoneReturns stream (D.state new) }
     ensures streams { (stream of : ℕ) (old new : D) → stream ≢ of → OtherStreams of (D.state old) (D.state new) → NoneReturns stream (D.state old) → NoneReturns stream (D.state new) }
+{}
+
+/// Files that recovery takes: no image of them is damaged. Those of a store in hand are, those of a stream that has no
+/// files, and what a crash leaves of such files; they stay so while calls only look or only other streams' files change. It
+/// does nothing.
+pub fn recoverable_files_recover<D: Disk>()
+    ensures store { (store : StoreInHand) (chunks : List Chunk) (d : D) → BackedStore store chunks (D.state d) → Recoverable store.stream (D.state d) }
+    ensures none { (stream : ℕ) (d : D) → NoFiles stream (D.state d) → Recoverable stream (D.state d) }
+    ensures crash { (stream of : ℕ) (old new : D) → LeftByCrash of (D.state old) (D.state new) → Recoverable stream (D.state old) → Recoverable stream (D.state new) }
+    ensures looks { (stream : ℕ) (old new : D) → Looks (D.state old) (D.state new) → Recoverable stream (D.state old) → Recoverable stream (D.state new) }
+    ensures streams { D.tells → (stream of : ℕ) (old new : D) → stream ≢ of → OtherStreams of (D.state old) (D.state new) → Recoverable stream (D.state old) → Recoverable stream (D.state new) }
+    ensures can { D.tells → (stream : ℕ) (d : D) → Recoverable stream (D.state d) → CanRecover stream (D.state d) }
+    ensures opens { D.tells → (stream : ℕ) (d : D) → Recoverable stream (D.state d) → Opens (seen_files (promise_file stream) (D.state d)) }
 {}

@@ -4,6 +4,7 @@ ghost use Rattle.std.specs.Prelude.{◌≡◌, ◌≤◌, ◌<◌, ◌∷◌, Li
 ghost use Rattle.disk_calls.specs.Disk.{HasCause};
 ghost use Rattle.segment_pairs.specs.Log.{segment_of};
 ghost use Rattle.segment_pairs.specs.Held.{Segment, EachLog, OldOrNew, OutsideLog, all_chunks};
+ghost use Rattle.segment_store.specs.Recoverable.{LogRecoverable};
 ghost use Rattle.segment_store.specs.Rows.{LogStands, FrontEnds, IsLast, grown};
 
 use crate::fault::StoreFault;
@@ -28,6 +29,7 @@ pub(crate) fn write_chunk<D: Disk>(
     requires stands { D.tells → (segments : List Segment) × LogStands stream rows.old.items segments (D.state disk.old) }
     ensures images { D.tells → (segments : List Segment) → LogStands stream rows.old.items segments (D.state disk.old) → EachLog stream (OldOrNew (all_chunks segments) chunk.now) (D.state disk.new) }
     ensures done { D.tells → (segments : List Segment) → LogStands stream rows.old.items segments (D.state disk.old) → OnOk result (LogStands stream rows.new.items (grown segments chunk.now) (D.state disk.new)) }
+    ensures recoverable { D.tells → LogRecoverable stream (D.state disk.new) }
     ensures memory { IsErrOf result StoreFault.Memory → (rows.new.items ≡ rows.old.items) × (disk.new ≡ disk.old) }
     ensures others { OutsideLog stream (D.state disk.old) (D.state disk.new) }
     ensures cause { HasCause (IsErrOf result StoreFault.Disk) (D.state disk.old) (D.state disk.new) }
@@ -54,6 +56,7 @@ fn add_chunk<D: Disk>(
     requires stands { D.tells → (x : Segment) × (older : List Segment) × LogStands stream rows.old.items (x ∷ older) (D.state disk.old) × IsLast x last }
     ensures images { D.tells → (x : Segment) (older : List Segment) → LogStands stream rows.old.items (x ∷ older) (D.state disk.old) → IsLast x last → EachLog stream (OldOrNew (all_chunks (x ∷ older)) chunk.now) (D.state disk.new) }
     ensures done { D.tells → (x : Segment) (older : List Segment) → LogStands stream rows.old.items (x ∷ older) (D.state disk.old) → IsLast x last → OnOk result (LogStands stream rows.new.items (grown (x ∷ older) chunk.now) (D.state disk.new)) }
+    ensures recoverable { D.tells → LogRecoverable stream (D.state disk.new) }
     ensures memory { IsErrOf result StoreFault.Memory → (rows.new.items ≡ rows.old.items) × (disk.new ≡ disk.old) }
     ensures others { OutsideLog stream (D.state disk.old) (D.state disk.new) }
     ensures cause { HasCause (IsErrOf result StoreFault.Disk) (D.state disk.old) (D.state disk.new) }
@@ -86,6 +89,7 @@ fn begin_segment<D: Disk>(
     requires stands { D.tells → (x : Segment) × (older : List Segment) × LogStands stream rows.old.items (x ∷ older) (D.state disk.old) × (262144 ≤ length (segment_of x.chunks)) }
     ensures images { D.tells → (x : Segment) (older : List Segment) → LogStands stream rows.old.items (x ∷ older) (D.state disk.old) → 262144 ≤ length (segment_of x.chunks) → EachLog stream (OldOrNew (all_chunks (x ∷ older)) chunk.now) (D.state disk.new) }
     ensures done { D.tells → (x : Segment) (older : List Segment) → LogStands stream rows.old.items (x ∷ older) (D.state disk.old) → 262144 ≤ length (segment_of x.chunks) → OnOk result (LogStands stream rows.new.items (grown (x ∷ older) chunk.now) (D.state disk.new)) }
+    ensures recoverable { D.tells → LogRecoverable stream (D.state disk.new) }
     ensures memory { IsErrOf result StoreFault.Memory → (rows.new.items ≡ rows.old.items) × (disk.new ≡ disk.old) }
     ensures others { OutsideLog stream (D.state disk.old) (D.state disk.new) }
     ensures cause { HasCause (IsErrOf result StoreFault.Disk) (D.state disk.old) (D.state disk.new) }

@@ -7,6 +7,7 @@ use Rattle.segment_pairs.proofs.Moving.{did_done}
 use Rattle.segment_store.specs.declared.rows.ChunkAt.{ChunkAt}
 use Rattle.segment_store.specs.Rows.{LogStands, FrontEnds, IsBehind, NoneBehind}
 use Rattle.segment_store.proofs.Trimming.{held_between, none_done, drop_failing, drop_again, again_images, again_done}
+use Rattle.segment_store.proofs.Keeping.{held_recoverable, dropping_recoverable}
 use Rattle.segment_store.proofs.cut.+drop_segments.Goals as goal
 
 pub returns-in-None-clause-images : goal.returns-in-None-clause-images
@@ -48,3 +49,13 @@ returns-in_default-clause-done g n c = λ told did segments kept stands ends.
 
 pub returns-in_default-clause-others : goal.returns-in_default-clause-others
 returns-in_default-clause-others g n c = outside_then _ _ (g.D.Disk.state c.remove_last.new.disk) _ (outside_log _ _ _ _ c.remove_last.ensures.others) c.drop_segments.ensures.others
+
+pub returns-in-None-clause-recoverable : goal.returns-in-None-clause-recoverable
+returns-in-None-clause-recoverable g n c = λ told.
+    let (segments, kept, stands, ends) = c.requires told in
+    held_recoverable _ _ segments _ stands
+
+pub returns-in-Failed-clause-recoverable : goal.returns-in-Failed-clause-recoverable
+returns-in-Failed-clause-recoverable g n c = λ told.
+    let (segments, kept, stands, ends) = c.requires told in
+    dropping_recoverable _ _ _ segments c.in-Some.last _ (g.D.Disk.state c.remove_last.new.disk) stands (subst (λ (l : List ChunkAt). IsBehind c.args.end l c.in-Some.last) c.deref.ensures.value c.in-Some.ensures) c.remove_last.ensures.others (c.remove_last.ensures.left told)

@@ -2,6 +2,7 @@ use Rattle.segment_pairs.proofs.Lifting.{outside_then}
 use Rattle.segment_store.proofs.RecoveryGhosts.{keeps_then, looks_keep}
 use Rattle.segment_store.proofs.RecoveryJoined.{if_ok, outside_looks}
 use Rattle.segment_store.proofs.RecoveryWhole.{found_damaged, found_keeps, found_outside, found_recovers, found_sound}
+use Rattle.segment_store.proofs.Keeping.{images_recoverable}
 use Rattle.segment_store.proofs.find.find_log.Goals as goal
 
 pub returns-in_err-numbers-clause-images : goal.returns-in_err-numbers-clause-images
@@ -38,3 +39,12 @@ returns-clause-sound g c = λ told F segment at.
 
 pub returns-clause-others : goal.returns-clause-others
 returns-clause-others g c = found_outside _ _ _ _ _ c.list_files.ensures.looks c.clear_numbers.ensures.others c.read_log.ensures.others
+
+pub returns-in_err-numbers-clause-recoverable : goal.returns-in_err-numbers-clause-recoverable
+returns-in_err-numbers-clause-recoverable g c = λ told. images_recoverable c.args.stream (g.D.Disk.state c.args.disk.now) (g.D.Disk.state c.list_files.new.disk) c.list_files.ensures.looks.images
+
+pub returns-in_err-kept-clause-recoverable : goal.returns-in_err-kept-clause-recoverable
+returns-in_err-kept-clause-recoverable g c = λ told r. c.clear_numbers.ensures.recoverable told (images_recoverable c.args.stream (g.D.Disk.state c.args.disk.now) (g.D.Disk.state c.list_files.new.disk) c.list_files.ensures.looks.images r)
+
+pub returns-clause-recoverable : goal.returns-clause-recoverable
+returns-clause-recoverable g c = λ told r. c.read_log.ensures.recoverable told (c.clear_numbers.ensures.recoverable told (images_recoverable c.args.stream (g.D.Disk.state c.args.disk.now) (g.D.Disk.state c.list_files.new.disk) c.list_files.ensures.looks.images r))

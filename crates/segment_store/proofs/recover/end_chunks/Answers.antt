@@ -33,3 +33,13 @@ returns-clause-ends g c = λ told.
 
 pub returns-clause-sound : goal.returns-clause-sound
 returns-clause-sound g c = λ told. read_enough c.args.stream c.args.number _ _ _ _ _ _ (g.D.Disk.state c.args.disk.now) (c.requires told) (omega (arith, c.saturating_sub.ensures, c.if-saturating_sub-gt-RECORD.false))
+
+pub returns-in-Failed-settle-clause-left : goal.returns-in-Failed-settle-clause-left
+returns-in-Failed-settle-clause-left g c = λ told left.
+    let torn = read_torn c.args.stream c.args.number _ _ _ _ _ _ (g.D.Disk.state c.args.disk.now) (c.requires told) (omega (arith, c.saturating_sub.ensures, c.if-saturating_sub-gt-RECORD.false)) in
+    c.settle.ensures.left told c.args.walk.chunks torn.0
+
+pub returns-clause-left : goal.returns-clause-left
+returns-clause-left g c = λ told left.
+    let torn = read_torn c.args.stream c.args.number _ _ _ _ _ _ (g.D.Disk.state c.args.disk.now) (c.requires told) (omega (arith, c.saturating_sub.ensures, c.if-saturating_sub-gt-RECORD.false)) in
+    c.settle.ensures.left told c.args.walk.chunks torn.0

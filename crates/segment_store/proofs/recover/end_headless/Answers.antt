@@ -1,4 +1,3 @@
-use Rattle.std.proofs.Common.{refl}
 use Rattle.segment_store.proofs.RecoveryLast.{headless_damaged}
 use Rattle.segment_store.proofs.recover.end_headless.Goals as goal
 

@@ -1,7 +1,8 @@
-use Rattle.std.proofs.Common.{arith, rules}
+use Rattle.std.proofs.Common.{arith}
 use Rattle.segment_pairs.proofs.Lifting.{outside_log, outside_then}
 use Rattle.segment_store.proofs.RecoveryGhosts.{looks_keep}
 use Rattle.segment_store.proofs.RecoveryJoined.{headless_keeps, headless_recovers, last_damaged, last_sound, outside_looks, reads_keep, reads_recover}
+use Rattle.segment_store.proofs.Keeping.{images_recoverable, reached_recoverable}
 use Rattle.segment_store.proofs.recover.end_recovery.Goals as goal
 
 pub returns-in_err-seen-clause-images : goal.returns-in_err-seen-clause-images
@@ -55,3 +56,17 @@ returns-in-Chunks-clause-sound g c = λ told F segment at.
 
 pub returns-in-Chunks-clause-others : goal.returns-in-Chunks-clause-others
 returns-in-Chunks-clause-others g c = outside_then c.args.stream (g.D.Disk.state c.args.disk.now) (g.D.Disk.state c.look_at.new.disk) (g.D.Disk.state c.end_chunks.new.disk) (outside_looks _ _ _ c.look_at.ensures.looks) (outside_log _ c.args.number _ _ c.end_chunks.ensures.others)
+
+pub returns-in_err-seen-clause-recoverable : goal.returns-in_err-seen-clause-recoverable
+returns-in_err-seen-clause-recoverable g c = λ told. images_recoverable c.args.stream (g.D.Disk.state c.args.disk.now) (g.D.Disk.state c.look_at.new.disk) c.look_at.ensures.looks.images
+
+pub returns-in-Failed-clause-recoverable : goal.returns-in-Failed-clause-recoverable
+returns-in-Failed-clause-recoverable g c = λ told. images_recoverable c.args.stream (g.D.Disk.state c.args.disk.now) (g.D.Disk.state c.look_at.new.disk) c.look_at.ensures.looks.images
+
+pub returns-in-Headless-clause-recoverable : goal.returns-in-Headless-clause-recoverable
+returns-in-Headless-clause-recoverable g c = λ told.
+    reached_recoverable c.args.stream c.args.number c.args.found.now.rows.items c.args.found.now.chunks.items (g.D.Disk.state c.args.disk.now) (g.D.Disk.state c.look_at.new.disk) (g.D.Disk.state c.end_headless.new.disk) (omega arith) (c.requires told) c.look_at.ensures.looks c.end_headless.ensures.others (c.end_headless.ensures.left told)
+
+pub returns-in-Chunks-clause-recoverable : goal.returns-in-Chunks-clause-recoverable
+returns-in-Chunks-clause-recoverable g c = λ told.
+    reached_recoverable c.args.stream c.args.number c.args.found.now.rows.items c.args.found.now.chunks.items (g.D.Disk.state c.args.disk.now) (g.D.Disk.state c.look_at.new.disk) (g.D.Disk.state c.end_chunks.new.disk) (omega arith) (c.requires told) c.look_at.ensures.looks c.end_chunks.ensures.others (c.end_chunks.ensures.left told)

@@ -5,6 +5,7 @@ use Rattle.segment_store.proofs.RecoveryNumbers.{drop_end}
 use Rattle.segment_store.proofs.RecoveryLast.{recovers_from, walks_end, walks_start}
 use Rattle.segment_store.proofs.RecoveryDamage.{damaged_looks, damaged_looked}
 use Rattle.segment_store.proofs.RecoveryJoined.{outside_looks, walks_broken, walks_misplaced, walks_on}
+use Rattle.segment_store.proofs.Keeping.{images_recoverable}
 use Rattle.segment_store.proofs.recover.read_log.Goals as goal
 
 pub loop-next-init : goal.loop-next-init
@@ -68,3 +69,15 @@ returns-clause-sound g c = λ told F segment at damaged. c.in_ok-end_recovery.en
 
 pub returns-clause-others : goal.returns-clause-others
 returns-clause-others g c = outside_then _ _ _ _ (outside_looks _ _ _ c.loop-next.invariant.looks) c.end_recovery.ensures.others
+
+pub returns-in_err-end-clause-recoverable : goal.returns-in_err-end-clause-recoverable
+returns-in_err-end-clause-recoverable g c = λ told. images_recoverable c.args.stream (g.D.Disk.state c.args.disk.now) (g.D.Disk.state c.read_older.new.disk) (looks_then _ _ _ c.loop-next.invariant.looks c.read_older.ensures.looks).images
+
+pub returns-then-next-end-clause-recoverable : goal.returns-then-next-end-clause-recoverable
+returns-then-next-end-clause-recoverable g c = λ told. images_recoverable c.args.stream (g.D.Disk.state c.args.disk.now) (g.D.Disk.state c.read_older.new.disk) (looks_then _ _ _ c.loop-next.invariant.looks c.read_older.ensures.looks).images
+
+pub returns-in_err-end_recovery-clause-recoverable : goal.returns-in_err-end_recovery-clause-recoverable
+returns-in_err-end_recovery-clause-recoverable g c = λ told r. c.end_recovery.ensures.recoverable told (images_recoverable c.args.stream (g.D.Disk.state c.args.disk.now) (g.D.Disk.state c.loop-next.disk) c.loop-next.invariant.looks.images r)
+
+pub returns-clause-recoverable : goal.returns-clause-recoverable
+returns-clause-recoverable g c = λ told r. c.end_recovery.ensures.recoverable told (images_recoverable c.args.stream (g.D.Disk.state c.args.disk.now) (g.D.Disk.state c.loop-next.disk) c.loop-next.invariant.looks.images r)

@@ -1,7 +1,8 @@
-use Rattle.std.proofs.Common.{arith, refl}
+use Rattle.std.proofs.Common.{◌∷◌, arith, refl}
 use Rattle.segment_pairs.proofs.Lifting.{outside_log}
 use Rattle.segment_pairs.proofs.Moving.{did_done}
 use Rattle.segment_store.proofs.Writing.{old_log, can_write, held_at, chunk_added}
+use Rattle.segment_store.proofs.Keeping.{added_recoverable, held_recoverable}
 use Rattle.segment_store.proofs.write.add_chunk.Goals as goal
 
 pub returns-in_err-push-clause-images : goal.returns-in_err-push-clause-images
@@ -34,3 +35,20 @@ returns-clause-done g c = λ told x older stands is.
 
 pub returns-clause-others : goal.returns-clause-others
 returns-clause-others g c = outside_log _ _ _ _ c.write_last.ensures.others
+
+pub returns-in_err-push-clause-recoverable : goal.returns-in_err-push-clause-recoverable
+returns-in_err-push-clause-recoverable g c = λ told.
+    let (x, older, stands, is) = c.requires.stands told in
+    held_recoverable _ _ (x ∷ older) _ stands
+
+pub returns-in-Failed-clause-recoverable : goal.returns-in-Failed-clause-recoverable
+returns-in-Failed-clause-recoverable g c = λ told.
+    let (x, older, stands, is) = c.requires.stands told in
+    let can = can_write _ _ x older c.args.last _ _ _ stands is c.row_of.ensures.is_chunk c.requires.first c.index_place.ensures in
+    added_recoverable _ _ _ x older _ (g.D.Disk.state c.write_last.new.disk) is.segment stands c.write_last.ensures.others (c.write_last.ensures.left told x.chunks can)
+
+pub returns-clause-recoverable : goal.returns-clause-recoverable
+returns-clause-recoverable g c = λ told.
+    let (x, older, stands, is) = c.requires.stands told in
+    let can = can_write _ _ x older c.args.last _ _ _ stands is c.row_of.ensures.is_chunk c.requires.first c.index_place.ensures in
+    added_recoverable _ _ _ x older _ (g.D.Disk.state c.write_last.new.disk) is.segment stands c.write_last.ensures.others (c.write_last.ensures.left told x.chunks can)

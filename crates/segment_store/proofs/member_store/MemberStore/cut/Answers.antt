@@ -1,5 +1,6 @@
 use Rattle.segment_pairs.proofs.Moving.{did_done}
 use Rattle.segment_store.proofs.Performing.{cut_leaves, cut_stands}
+use Rattle.segment_store.proofs.Keeping.{job_recoverable}
 use Rattle.segment_store.proofs.member_store.MemberStore.cut.Goals as goal
 
 pub returns-in-Failed-clause-leaves : goal.returns-in-Failed-clause-leaves
@@ -13,3 +14,13 @@ returns-clause-leaves g c = λ told segments stands.
 pub returns-clause-done : goal.returns-clause-done
 returns-clause-done g c = λ told segments stands.
     cut_stands _ _ c.self.view_is _ segments _ _ _ stands c.cut.ensures.stream c.cut.ensures.others (λ here. c.cut.ensures.done told (did_done _ c.in_default.not-Failed) segments here.log)
+
+pub returns-in-Failed-clause-recoverable : goal.returns-in-Failed-clause-recoverable
+returns-in-Failed-clause-recoverable g c = λ told.
+    let (segments, stands) = c.requires.backed told in
+    job_recoverable _ _ c.self.view_is segments _ _ stands c.cut.ensures.others (c.cut.ensures.recoverable told)
+
+pub returns-clause-recoverable : goal.returns-clause-recoverable
+returns-clause-recoverable g c = λ told.
+    let (segments, stands) = c.requires.backed told in
+    job_recoverable _ _ c.self.view_is segments _ _ stands c.cut.ensures.others (c.cut.ensures.recoverable told)

@@ -2,6 +2,7 @@ use Rattle.std.proofs.Common.{refl, sym, ◌∙◌, ap, ℕ, List}
 use Rattle.segment_store.specs.Words.{word_of}
 use Rattle.segment_store.proofs.Storing.{outside_streams}
 use Rattle.segment_store.proofs.Returning.{log_keeps, both_keep, both_streams, back_damages, back_opens, on_opens, pairs_same, recovered_backed, recovered_only, err_same}
+use Rattle.segment_store.proofs.Keeping.{opened_recoverable, outside_recoverable}
 use Rattle.segment_store.proofs.member_store.MemberStore.recover.Goals as goal
 
 pub returns-in_err-found-clause-images : goal.returns-in_err-found-clause-images
@@ -58,3 +59,15 @@ returns-clause-promise g c = λ told.
 
 pub returns-clause-sound_words : goal.returns-clause-sound_words
 returns-clause-sound_words g c = λ told. back_opens _ _ _ c.recover_log.ensures.others (c.in_ok-promises.ensures.opens told)
+
+pub returns-in_err-found-clause-recoverable : goal.returns-in_err-found-clause-recoverable
+returns-in_err-found-clause-recoverable g c = λ told. outside_recoverable _ _ _ c.recover_log.ensures.others (c.recover_log.ensures.recoverable told)
+
+pub returns-in_err-promises-clause-recoverable : goal.returns-in_err-promises-clause-recoverable
+returns-in_err-promises-clause-recoverable g c = λ told. opened_recoverable _ _ _ _ (λ f. g.met.D.Disk.reads_image c.recover_log.new.disk f told) c.recover_log.ensures.others (c.recover_log.ensures.recoverable told) (c.open_promises.ensures.images told) c.open_promises.ensures.others
+
+pub returns-in_err-chunks-clause-recoverable : goal.returns-in_err-chunks-clause-recoverable
+returns-in_err-chunks-clause-recoverable g c = λ told. opened_recoverable _ _ _ _ (λ f. g.met.D.Disk.reads_image c.recover_log.new.disk f told) c.recover_log.ensures.others (c.recover_log.ensures.recoverable told) (c.open_promises.ensures.images told) c.open_promises.ensures.others
+
+pub returns-clause-recoverable : goal.returns-clause-recoverable
+returns-clause-recoverable g c = λ told. opened_recoverable _ _ _ _ (λ f. g.met.D.Disk.reads_image c.recover_log.new.disk f told) c.recover_log.ensures.others (c.recover_log.ensures.recoverable told) (c.open_promises.ensures.images told) c.open_promises.ensures.others
