@@ -190,19 +190,19 @@ pub fn remove_pair<D: Disk>(disk: &mut D, stream: u32, number: u64) -> DiskDid
     disk.remove(segment)
 }
 
-/// Cuts away what a crash left behind the chunks of a segment, which end at these sizes, from the index first. Its calls
-/// of the disk are `cut` and `sync` of each.
+/// Cuts away what a crash left behind the chunks of a segment, which end at these places, from the index first. Its
+/// calls of the disk are `cut` and `sync` of each.
 pub fn trim_pair<D: Disk>(
     disk: &mut D,
     stream: u32,
     number: u64,
-    size: u64,
-    index_size: u64,
+    place: u64,
+    index_place: u64,
 ) -> DiskDid
-    requires { D.tells → (cs : List Chunk) × FoundTorn stream number cs size index_size (D.state disk.old) }
-    ensures images { D.tells → (cs : List Chunk) → FoundTorn stream number cs size index_size (D.state disk.old) → EachPair stream number (λ l. l ≡ cs) (D.state disk.new) }
-    ensures left { D.tells → (cs : List Chunk) → FoundTorn stream number cs size index_size (D.state disk.old) → EachLeft stream number (D.state disk.new) }
-    ensures done { D.tells → result ≡ DiskDid.Done → (cs : List Chunk) → FoundTorn stream number cs size index_size (D.state disk.old) → Stands stream (record { number = number; chunks = cs }) (D.state disk.new) }
+    requires { D.tells → (cs : List Chunk) × FoundTorn stream number cs place index_place (D.state disk.old) }
+    ensures images { D.tells → (cs : List Chunk) → FoundTorn stream number cs place index_place (D.state disk.old) → EachPair stream number (λ l. l ≡ cs) (D.state disk.new) }
+    ensures left { D.tells → (cs : List Chunk) → FoundTorn stream number cs place index_place (D.state disk.old) → EachLeft stream number (D.state disk.new) }
+    ensures done { D.tells → result ≡ DiskDid.Done → (cs : List Chunk) → FoundTorn stream number cs place index_place (D.state disk.old) → Stands stream (record { number = number; chunks = cs }) (D.state disk.new) }
     ensures others { BesidesPair stream number (D.state disk.old) (D.state disk.new) }
     ensures cause { HasCause (result ≡ DiskDid.Failed) (D.state disk.old) (D.state disk.new) }
 {
@@ -214,8 +214,8 @@ pub fn trim_pair<D: Disk>(
         stream,
         file: FileName::Index(number),
     };
-    if let DiskDid::Failed = shorten(disk, index, index_size) {
+    if let DiskDid::Failed = shorten(disk, index, index_place) {
         return DiskDid::Failed;
     }
-    shorten(disk, segment, size)
+    shorten(disk, segment, place)
 }
