@@ -23,6 +23,7 @@ use command_data::Tagged;
 use command_fields::OffsetSpec;
 use frame_wire::{Row, Text};
 use std::alloc::{AllocError, Global};
+use std::collections::VecDeque;
 use std::marker::Model;
 use stream_terms::{
     Confirm, DeclareFault, Given, OfferFault, Pass, Taken, Waits, end_of, last_first, next_above,
@@ -96,6 +97,13 @@ impl MemoryStream {
         };
         push_given(&mut self.passes, Given { pass, name })?;
         Ok(pass)
+    }
+
+    /// The number of the stream.
+    pub fn number(&self) -> u32
+        ensures { result ≡ self.now.number }
+    {
+        self.number
     }
 
     /// The epoch that runs.
@@ -410,10 +418,9 @@ fn part_ready(
     ensures kept { IfOk result (λ kept. kept.items ≡ filter (is_other session) ready.items) }
     ensures out { OnOk result (out.new ≡ out.old ++ map confirm_of (filter (is_of session) ready.items)) }
 {
-    let mut ready = ready;
+    let mut ready = VecDeque::from(ready);
     let mut kept = Vec::new(alloc);
-    'ready: while !ready.is_empty() {
-        let waits = ready.remove(0);
+    'ready: while let Some(waits) = ready.pop_front() {
         if waits.given.pass.session == session {
             let confirm = confirm_of(waits);
             match out.push(confirm) {

@@ -5,4 +5,4 @@ mod asked;
 mod taken;
 
 pub use asked::{found_in, greatest_in, last_in, next_in, start_in, stored_in};
-pub use taken::{confirms_in, declare_in, offer_in, store_in};
+pub use taken::{confirms_in, declare_in, offer_in, place_of, store_in};

@@ -12,7 +12,7 @@ use std::alloc::{AllocError, Global};
 use stream_terms::{Confirm, DeclareFault, OfferFault, Pass, Taken};
 
 /// The place of a stream in a table of so many.
-fn place_of(len: usize, stream: u32) -> Option<usize>
+pub fn place_of(len: usize, stream: u32) -> Option<usize>
     ensures some { IfSome result (λ place. (stream ≡ suc place) × (place < len)) }
     ensures none { IfNone result ((stream ≡ 0) ⊎ (len < stream)) }
 {

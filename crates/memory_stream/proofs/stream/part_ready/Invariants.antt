@@ -1,4 +1,4 @@
-use Rattle.std.proofs.Common.{◌≡◌, ◌++◌, map, vec_len}
+use Rattle.std.proofs.Common.{◌≡◌, ◌++◌, map, deque_len}
 use Rattle.std.specs.List.{filter}
 use Rattle.stream_terms.specs.Steps.{is_of, is_other, confirm_of}
 use Rattle.memory_stream.proofs.stream.part_ready.Given as goal
@@ -10,4 +10,4 @@ invariant-ready l = record {
 }
 
 abbrev pub decreases-ready : goal.decreases-ready
-decreases-ready l = vec_len l.ready
+decreases-ready l = deque_len l.ready
