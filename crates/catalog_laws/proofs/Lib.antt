@@ -1,0 +1,5 @@
+mod Lookups
+mod NumberLaws
+mod Distinct
+mod Made
+mod Going
