@@ -7,3 +7,4 @@ pub mod Snapshots
 pub mod Sends
 pub mod Holding
 pub mod Commits
+pub mod TakingBack

@@ -1,5 +1,5 @@
 -- What a member keeps, seen as a member of the rules of replication.
-use Rattle.std.specs.Prelude.{◌≡◌, ℕ, ◌+◌, ◌≤◌, ◌&&◌, ◌||◌, ◌==◌, if◌then◌else◌, nat_le, Bool, true, false, List, [], ◌∷◌, map, take, Option, Some, None}
+use Rattle.std.specs.Prelude.{◌≡◌, ℕ, ◌+◌, ◌≤◌, ◌&&◌, ◌||◌, ◌==◌, if◌then◌else◌, nat_le, Bool, true, false, List, [], ◌∷◌, ◌++◌, length, map, take, Option, Some, None}
 use Rattle.chunk_format.specs.declared.chunk.Chunk.{Chunk}
 use Rattle.chunk_format.specs.Chunks.{end_of_chunk}
 use Rattle.chunk_format.specs.Logs.{last_epoch}
@@ -11,9 +11,10 @@ use Rattle.epoch_coordinator.specs.declared.message.Sent.{Sent}
 use Rattle.epoch_coordinator.specs.declared.message.Job.{Job}
 use Rattle.epoch_coordinator.specs.declared.message.Job.TheVariants as jobs
 use Rattle.epoch_coordinator.specs.Tails.{same_tail, tail_of, runs_of}
-use Rattle.epoch_coordinator.specs.Members.{Leading, MemberRole, MemberState, Stopped, Follower, Leader}
-use Rattle.epoch_coordinator.specs.MemberSteps.{behind_first, Took, tail_after, other_members, mail, raise, is_majority, reaching, names_another, epoch_of, is_later_stop}
-use Rattle.member_core.specs.Kept.{LogState, whole}
+use Rattle.epoch_coordinator.specs.Members.{Leading, MemberRole, MemberState, Stopped, Follower, Leader, job_chunks, role_chunks}
+use Rattle.epoch_coordinator.specs.MemberSteps.{behind_first, next_job, offered, Took, tail_after, other_members, mail, raise, is_majority, reaching, names_another, epoch_of, is_later_stop}
+use Rattle.member_core.specs.Kept.{LogState, whole, AreCounted}
+use Rattle.member_core.specs.declared.back.Mark.{Mark}
 use Rattle.member_core.specs.declared.duty.Lead.{Lead}
 use Rattle.member_core.specs.declared.duty.Duty.{Duty}
 use Rattle.member_core.specs.declared.duty.Duty.TheVariants as duties
@@ -148,6 +149,35 @@ pub record IsMember (members promise : ℕ) (duty : Duty) (log : LogState) (job 
   pub leads : Leads duty job
   pub promised : last_epoch (whole log) ≤ promise
   pub next : Promises promise job
+
+-- ---- chunks are taken, and taken back
+
+-- a leader takes chunks, one after the other
+abbrev pub offered_all : List Chunk → MemberState → MemberState
+offered_all [] m = m
+offered_all (c ∷ chunks) m = offered_all chunks (offered c m)
+
+-- the chunks that are not in its log: the one that is being written, and those that wait
+abbrev pub waiting_of : MemberState → List Chunk
+waiting_of m = job_chunks m.job ++ role_chunks m.role
+
+abbrev pub queued_as : List Chunk → MemberRole → MemberRole
+queued_as queue Stopped = Stopped
+queued_as queue (Follower leader) = Follower leader
+queued_as queue (Leader leading) = Leader (record leading { queue = queue })
+
+-- a leader of which these chunks aren't in its log
+abbrev pub with_waiting : List Chunk → MemberState → MemberState
+with_waiting chunks m = record m { role = queued_as (behind_first chunks) m.role; job = next_job chunks }
+
+-- what a leader took since a mark was made is taken back
+abbrev pub taken_back : Mark → MemberState → MemberState
+taken_back mark m = with_waiting (take mark.count (waiting_of m)) m
+
+-- a mark tells how many of its chunks weren't in its log, and the numbers of its chunks up to there
+pub record Marks (mark : Mark) (m : MemberState) : Type 0 where
+  pub within : mark.count ≤ length (waiting_of m)
+  pub counted : AreCounted (m.log ++ take mark.count (waiting_of m)) (take mark.count (waiting_of m)) mark.counted.bytes mark.counted.since mark.counted.waiting
 
 -- ---- messages
 

@@ -1,6 +1,6 @@
 //! What is tracked of a list of chunks, up to some place.
 
-ghost use Rattle.std.specs.Prelude.{◌≡◌, ◌-◌, [], length, OnOk};
+ghost use Rattle.std.specs.Prelude.{◌≡◌, ◌-◌, ◌≤◌, [], length, take, OnOk};
 ghost use Rattle.chunk_format.specs.Logs.{Truthful};
 ghost use Rattle.tracking_state.specs.Tracked.{tracked_of};
 ghost use Rattle.member_core.specs.Kept.{IsKnown};
@@ -46,5 +46,18 @@ impl Known {
             self.count += 1;
         }
         Ok(())
+    }
+
+    /// Of the list only a front of this length is left.
+    pub(crate) fn shorten(&mut self, alloc: Global, chunks: &[Stored], len: usize)
+        requires within { len ≤ length chunks.now }
+        requires known { IsKnown chunks.now self.old.count self.old.tracking }
+        ensures { IsKnown (take len chunks.now) self.new.count self.new.tracking }
+    {
+        let _chunks = chunks.len();
+        if self.count > len {
+            self.tracking = Tracking::empty(alloc);
+            self.count = 0;
+        }
     }
 }

@@ -2,6 +2,7 @@
 //! that wait behind it, and what is known of both.
 #![tactic(auto)]
 
+mod back;
 mod commit;
 mod counted;
 mod done;
@@ -14,6 +15,7 @@ mod search;
 mod send;
 mod take;
 
+pub use back::Mark;
 pub use duty::Role;
 pub use member::{Member, MemberStart};
 pub use take::Taken;

@@ -8,7 +8,7 @@ ghost use Rattle.chunk_format.specs.ByName.{Greatest, LastStored, first_seen, ta
 ghost use Rattle.epoch_coordinator.specs.Tails.{tail_of, runs_of};
 ghost use Rattle.epoch_coordinator.specs.MemberSteps.{cut_at, chunk_from, kept_end, ends_in, has_epoch, is_true_after};
 ghost use Rattle.epoch_coordinator.specs.Offers.{since_snapshot};
-ghost use Rattle.member_core.specs.Kept.{whole, only, with_chunk, written, GoesBehind, bytes_of, plain_count, snapshot_chunk};
+ghost use Rattle.member_core.specs.Kept.{whole, only, with_chunk, written, withdrawn, GoesBehind, AreCounted, bytes_of, plain_count, snapshot_chunk};
 
 use crate::counted::{Counted, without};
 use crate::known::Known;
@@ -111,6 +111,26 @@ impl MemberLog {
         self.counted = counted;
         self.known = Known::nothing(self.alloc);
         Ok(())
+    }
+
+    /// Only the first chunks that wait still do; all chunks that are left have these numbers. It takes no memory.
+    pub(crate) fn withdraw(&mut self, count: usize, counted: Counted)
+        requires within { count ≤ length self.old.ahead }
+        requires counted { AreCounted (whole (withdrawn count self.old)) (withdrawn count self.old).ahead counted.bytes counted.since counted.waiting }
+        ensures is { self.new ≡ withdrawn count self.old }
+        ensures epoch { last_epoch (whole self.new) ≤ last_epoch (whole self.old) }
+    {
+        let len = self.written + count;
+        self.known.shorten(self.alloc, self.chunks.as_slice(), len);
+        self.chunks.truncate(len);
+        self.counted = counted;
+    }
+
+    /// The numbers of the chunks.
+    pub(crate) fn counted(&self) -> Counted
+        ensures { AreCounted (whole self.now) self.now.ahead result.bytes result.since result.waiting }
+    {
+        self.counted
     }
 
     /// The chunks of the log.
