@@ -3,7 +3,7 @@ use Rattle.std.proofs.Common.{◌≡◌, ◌≢◌, inl, inr, ℕ, ◌+◌, ◌*
 use Rattle.std.proofs.lemmas.Bool.{cases_eq, cases_lt}
 use Rattle.disk_calls.specs.declared.file_id.FileId.{FileId}
 use Rattle.disk_calls.specs.Disk.{DiskState, Image, bytes_of, LeftByCrash, Looks}
-use Rattle.disk_calls.specs.Frames.{Besides, OtherStreams}
+use Rattle.disk_calls.specs.Frames.{Besides, FileStays, OtherStreams}
 use Rattle.disk_calls.proofs.FrameLemmas.{streams_stay}
 use Rattle.chunk_format.specs.declared.chunk.Chunk.{Chunk}
 use Rattle.chunk_format.specs.Logs.{end_of}
@@ -21,7 +21,7 @@ use Rattle.segment_store.specs.Rows.{CanTrim, IsBehind, IsKept, LogStands}
 use Rattle.segment_store.specs.Stores.{StoreInHand, StoreStands, BackedStore, promise_file}
 use Rattle.segment_store.specs.Recovery.{AreChunks, CanRecover, Counts, HasRecords, IsDamaged, IsTooMuch, ReachedLast, log_below}
 use Rattle.segment_store.specs.Recoverable.{InLine, LogRecoverable, NoFiles, Recoverable}
-use Rattle.segment_store.proofs.Storing.{LogStays, promise_apart, second_apart, put_leaves}
+use Rattle.segment_store.proofs.Storing.{LogStays, outside_stay, promise_apart, second_apart, put_leaves}
 use Rattle.segment_store.proofs.Cutting.{kept_one}
 use Rattle.segment_store.proofs.Trimming.{behind_by, trim_at, trim_requires}
 use Rattle.segment_store.proofs.Performing.{log_stays, promise_stays}
@@ -187,13 +187,23 @@ reached_recoverable stream n rows chunks s t u lt last looks besides leaves r =
 
 -- ---- with the promises
 
-pub backs_open : (stream : ℕ) (hand : InHand) (s : DiskState) → hand.id ≡ promise_file stream → Backs hand s → EachBoth (promise_file stream) Opens s
-backs_open stream hand s is backs files left = (backs.near.1 files (subst (λ (f : FileId). Leaves f s files) (sym is) left)).opens
+pub backs_open : (id : FileId) (hand : InHand) (s : DiskState) → hand.id ≡ id → Backs hand s → EachBoth id Opens s
+backs_open id hand s is backs files left = (backs.near.1 files (subst (λ (f : FileId). Leaves f s files) (sym is) left)).opens
+
+-- files of pairs of which images only go
+pub words_left : (id : FileId) (s t : DiskState) → FileStays id s t → FileStays (second_file id) s t → EachBoth id Opens s → EachBoth id Opens t
+words_left id s t one two words files left = words files (record { first = one.images files.first left.first; second = two.images files.second left.second })
+
+pub words_images : (id : FileId) (s t : DiskState) → ImagesOf s t → EachBoth id Opens s → EachBoth id Opens t
+words_images id s t back words files left = words files (record { first = back id files.first left.first; second = back (second_file id) files.second left.second })
+
+pub words_seen : (id : FileId) (s : DiskState) → ((f : FileId) → s.images f (s.seen f)) → EachBoth id Opens s → Opens (seen_files id s)
+words_seen id s law words = words (seen_files id s) (record { first = law id; second = law (second_file id) })
 
 pub outside_recoverable : (stream : ℕ) (s m : DiskState) → OutsideLog stream s m → (LogRecoverable stream s → LogRecoverable stream m) → Recoverable stream s → Recoverable stream m
 outside_recoverable stream s m outside log r = record {
   log = log r.log;
-  words = λ files left. r.words files (record { first = outside.images (promise_file stream) (promise_apart stream) files.first left.first; second = outside.images (second_file (promise_file stream)) (second_apart stream) files.second left.second });
+  words = words_left (promise_file stream) s m (outside_stay stream (promise_file stream) s m outside (promise_apart stream)) (outside_stay stream (second_file (promise_file stream)) s m outside (second_apart stream)) r.words;
 }
 
 pub opened_recoverable : (stream : ℕ) (s m t : DiskState) → ((f : FileId) → m.images f (m.seen f)) → OutsideLog stream s m → (LogRecoverable stream s → LogRecoverable stream m) → KeepsPairs (promise_file stream) m t → Besides (promise_file stream) (second_file (promise_file stream)) m t
@@ -211,7 +221,7 @@ job_recoverable was store same segments s t stands outside log =
     let here : StoreStands was segments s = subst (λ (v : StoreInHand). StoreStands v segments s) (sym same) stands in
     subst (λ (v : StoreInHand). Recoverable v.stream t) same (record {
       log = subst (λ (n : ℕ). LogRecoverable n t) here.of.log log;
-      words = backs_open was.stream was.promises t here.of.promises (promise_stays was segments s t here outside).0;
+      words = backs_open (promise_file was.stream) was.promises t here.of.promises (promise_stays was segments s t here outside).0;
     })
 
 -- and one of the promises
@@ -220,7 +230,7 @@ put_recoverable was store same hand segments s t stands id besides backs =
     let here : StoreStands was segments s = subst (λ (v : StoreInHand). StoreStands v segments s) (sym same) stands in
     subst (λ (v : StoreInHand). Recoverable v.stream t) same (record {
       log = subst (λ (n : ℕ). LogRecoverable n t) here.of.log (held_recoverable was.log.stream was.log.rows segments t (log_stays was segments s t here besides));
-      words = backs_open was.stream hand t (id ∙ here.of.promises) backs;
+      words = backs_open (promise_file was.stream) hand t (id ∙ here.of.promises) backs;
     })
 
 -- ---- what is recoverable
@@ -230,7 +240,7 @@ backed_recoverable store chunks s backed =
     let stands = backed.stands in
     record {
       log = subst (λ (n : ℕ). LogRecoverable n s) stands.of.log (held_recoverable store.log.stream store.log.rows backed.segments s stands.log);
-      words = backs_open store.stream store.promises s stands.of.promises stands.promises;
+      words = backs_open (promise_file store.stream) store.promises s stands.of.promises stands.promises;
     }
 
 short_images : (n : ℕ) (a b : Image) → a ≡ None → b ≡ None → IsLeft n a b
@@ -243,10 +253,13 @@ short_images n a b none_a none_b = record {
 opens_none : (files : Files) → files.first ≡ None → files.second ≡ None → Opens files
 opens_none files first second = subst (λ (c : Image). Opens (record { first = c; second = files.second })) (sym first) (inl (none_short files.second second))
 
+pub words_none : (id : FileId) (s : DiskState) → NoFiles id.stream s → EachBoth id Opens s
+words_none id s none files left = opens_none files ((none id refl).only files.first left.first) ((none (second_file id) refl).only files.second left.second)
+
 pub none_recoverable : (stream : ℕ) (s : DiskState) → NoFiles stream s → Recoverable stream s
 none_recoverable stream s none = record {
   log = tail_recoverable stream 0 [] s (omega arith) refl (λ i ge less. absurd (omega (arith, less))) (λ i ge less. missing i) (λ a b left_a left_b. short_images 0 a b ((none (segment_file stream 0) refl).only a left_a) ((none (index_file stream 0) refl).only b left_b));
-  words = λ files left. opens_none files ((none (promise_file stream) refl).only files.first left.first) ((none (second_file (promise_file stream)) refl).only files.second left.second);
+  words = words_none (promise_file stream) s none;
 }
   where
     missing : (i : ℕ) → Missing stream i s
@@ -281,14 +294,14 @@ recoverable_can stream s law r = record {
 }
 
 pub recoverable_opens : (stream : ℕ) (s : DiskState) → ((f : FileId) → s.images f (s.seen f)) → Recoverable stream s → Opens (seen_files (promise_file stream) s)
-recoverable_opens stream s law r = r.words (seen_files (promise_file stream) s) (record { first = law (promise_file stream); second = law (second_file (promise_file stream)) })
+recoverable_opens stream s law r = words_seen (promise_file stream) s law r.words
 
 -- ---- what keeps it
 
 kept_images : (stream : ℕ) (s t : DiskState) → ImagesOf s t → Recoverable stream s → Recoverable stream t
 kept_images stream s t back r = record {
   log = images_recoverable stream s t back r.log;
-  words = λ files left. r.words files (record { first = back (promise_file stream) files.first left.first; second = back (second_file (promise_file stream)) files.second left.second });
+  words = words_images (promise_file stream) s t back r.words;
 }
 
 pub looks_recoverable : (stream : ℕ) (s t : DiskState) → Looks s t → Recoverable stream s → Recoverable stream t
@@ -300,5 +313,5 @@ crash_recoverable stream of s t crash = kept_images stream s t (crash_images of 
 pub streams_recoverable : (stream of : ℕ) (s t : DiskState) → ((f : FileId) → s.images f (s.seen f)) → stream ≢ of → OtherStreams of s t → Recoverable stream s → Recoverable stream t
 streams_recoverable stream of s t law ne others r = record {
   log = stays_recoverable stream s t law (λ n. record { segment = streams_stay (segment_file stream n) of s t ne others; index = streams_stay (index_file stream n) of s t ne others }) r.log;
-  words = λ files left. r.words files (record { first = others.images (promise_file stream) ne files.first left.first; second = others.images (second_file (promise_file stream)) ne files.second left.second });
+  words = words_left (promise_file stream) s t (streams_stay (promise_file stream) of s t ne others) (streams_stay (second_file (promise_file stream)) of s t ne others) r.words;
 }

@@ -11,6 +11,7 @@ use Rattle.segment_pairs.specs.Held.{Picks, files_of}
 use Rattle.segment_pairs.specs.Left.{EachLeft}
 use Rattle.segment_store.specs.Recovery.{AreChunks, Counts, log_below}
 use Rattle.segment_store.specs.Stores.{promise_file}
+use Rattle.segment_store.specs.Words.{epochs_file}
 
 -- each segment that counts begins where the log below it ends, and is its chunks and nothing else, where one above it counts
 pub record InLine (F : Finder) (files : ℕ → Pair) : Type 0 where
@@ -26,6 +27,10 @@ pub record LogRecoverable (stream : ℕ) (s : DiskState) : Type 0 where
 pub record Recoverable (stream : ℕ) (s : DiskState) : Type 0 where
   pub log : LogRecoverable stream s
   pub words : EachBoth (promise_file stream) Opens s
+
+-- in each image the files of epochs can be opened
+abbrev pub EpochsRecoverable : DiskState → Type 0
+EpochsRecoverable s = EachBoth epochs_file Opens s
 
 -- no file of a stream is there, and no crash brings one back
 abbrev pub NoFiles : ℕ → DiskState → Type 0

@@ -5,6 +5,7 @@ ghost use Rattle.disk_calls.specs.Disk.{HasCause};
 ghost use Rattle.disk_calls.specs.Frames.{Besides};
 ghost use Rattle.gated_words.specs.Files.{Damages, Opens, PairsOf, seen_files, second_file};
 ghost use Rattle.gated_words.specs.Backing.{Backs, EachBoth, EachHas, KeepsPairs, MayAdd};
+ghost use Rattle.segment_store.specs.Recoverable.{EpochsRecoverable};
 ghost use Rattle.segment_store.specs.Words.{epochs_file, word_of, EachWord};
 
 use crate::fault::StoreFault;
@@ -49,11 +50,12 @@ impl Model for EpochStore {
 
 impl EpochStore {
     /// Opens the files of epochs, or makes them. It fails with `DamagedWords` exactly where no crash leaves such
-    /// files, with `Disk` only where the disk failed, and with `Memory` for want of memory.
+    /// files, with `Disk` only where the disk failed, and with `Memory` for want of memory. `DamagedWords` never comes
+    /// where no image of the files is damaged, which `perform`, this call and crashes keep (`epochs_recover`).
     pub fn recover<D: Disk>(alloc: Global, disk: &mut D) -> Result<EpochStore, StoreFault>
         // After each answer.
         ensures images { D.tells → KeepsPairs epochs_file (D.state disk.old) (D.state disk.new) }
-        ensures recoverable { D.tells → EachBoth epochs_file Opens (D.state disk.old) → EachBoth epochs_file Opens (D.state disk.new) }
+        ensures recoverable { D.tells → EpochsRecoverable (D.state disk.old) → EpochsRecoverable (D.state disk.new) }
         ensures others { Besides epochs_file (second_file epochs_file) (D.state disk.old) (D.state disk.new) }
 
         ensures epochs { D.tells → (stream : ℕ) → IfOk result (λ s. word_of stream s.pairs ≡ word_of stream (PairsOf (seen_files epochs_file (D.state disk.old)))) }

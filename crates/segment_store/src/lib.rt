@@ -27,6 +27,6 @@ pub use receipt::Receipt;
 pub use recovered::{Recovered, Recovery};
 pub use segment_log::SegmentLog;
 pub use store_laws::{
-    jobs_continue_logs, logs_outlast_crashes, recoverable_files_recover, recovery_may_begin,
-    stores_stay_backed,
+    epochs_recover, jobs_continue_logs, logs_outlast_crashes, recoverable_files_recover,
+    recovery_may_begin, stores_stay_backed,
 };

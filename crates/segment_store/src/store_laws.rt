@@ -1,13 +1,16 @@
 //! What holds of all stores and their disks, named by contracts.
 
-ghost use Rattle.std.specs.Prelude.{◌≡◌, ◌≢◌, ℕ, List};
+ghost use Rattle.std.specs.Prelude.{◌≡◌, ◌≢◌, ◌<◌, ℕ, List};
 ghost use Rattle.disk_calls.specs.Disk.{LeftByCrash, Looks};
 ghost use Rattle.disk_calls.specs.Frames.{OtherStreams};
 ghost use Rattle.chunk_format.specs.declared.chunk.Chunk.{Chunk};
 ghost use Rattle.epoch_coordinator.specs.declared.message.Job.{Job};
 ghost use Rattle.segment_pairs.specs.Log.{Finder};
 ghost use Rattle.gated_words.specs.Files.{Opens, seen_files};
-ghost use Rattle.segment_store.specs.Recoverable.{NoFiles, Recoverable};
+ghost use Rattle.gated_words.specs.InHand.{InHand};
+ghost use Rattle.gated_words.specs.Backing.{Backs};
+ghost use Rattle.segment_store.specs.Recoverable.{EpochsRecoverable, NoFiles, Recoverable};
+ghost use Rattle.segment_store.specs.Words.{epochs_file};
 ghost use Rattle.segment_store.specs.Recovery.{CanRecover, NoneReturns};
 ghost use Rattle.segment_store.specs.Stores.{BackedStore, Continues, ContinuesLog, EachHolds, EndsRise, KeepsStore, StoreInHand, promise_file, promise_of};
 
@@ -64,4 +67,16 @@ pub fn recoverable_files_recover<D: Disk>()
     ensures streams { D.tells → (stream of : ℕ) (old new : D) → stream ≢ of → OtherStreams of (D.state old) (D.state new) → Recoverable stream (D.state old) → Recoverable stream (D.state new) }
     ensures can { D.tells → (stream : ℕ) (d : D) → Recoverable stream (D.state d) → CanRecover stream (D.state d) }
     ensures opens { D.tells → (stream : ℕ) (d : D) → Recoverable stream (D.state d) → Opens (seen_files (promise_file stream) (D.state d)) }
+{}
+
+/// Files of epochs that can be opened in each image: those behind epochs in hand can, those of a disk without files, and
+/// what a crash leaves of such files; they stay so while calls only look or only the files of a stream above 0 change. What
+/// a read gives of them can be opened. It does nothing.
+pub fn epochs_recover<D: Disk>()
+    ensures store { (hand : InHand) (d : D) → hand.id ≡ epochs_file → Backs hand (D.state d) → EpochsRecoverable (D.state d) }
+    ensures none { (d : D) → NoFiles 0 (D.state d) → EpochsRecoverable (D.state d) }
+    ensures crash { (of : ℕ) (old new : D) → LeftByCrash of (D.state old) (D.state new) → EpochsRecoverable (D.state old) → EpochsRecoverable (D.state new) }
+    ensures looks { (old new : D) → Looks (D.state old) (D.state new) → EpochsRecoverable (D.state old) → EpochsRecoverable (D.state new) }
+    ensures streams { (of : ℕ) (old new : D) → 0 < of → OtherStreams of (D.state old) (D.state new) → EpochsRecoverable (D.state old) → EpochsRecoverable (D.state new) }
+    ensures opens { D.tells → (d : D) → EpochsRecoverable (D.state d) → Opens (seen_files epochs_file (D.state d)) }
 {}
