@@ -5,3 +5,5 @@
 mod lines;
 #[cfg(test)]
 mod outputs;
+#[cfg(test)]
+mod readings;
