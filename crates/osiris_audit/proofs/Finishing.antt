@@ -1,19 +1,18 @@
 -- An inspection whose files are read to their end.
-use Rattle.std.proofs.Common.{◌≡◌, ◌⊎◌, inl, inr, ℕ, ◌+◌, ◌-◌, ◌/◌, ◌<◌, ◌≤◌, List, [], ◌∷◌, ◌++◌, length, take, drop, Bool, true, false, Option, Some, None, Result, Ok, Err, refl, sym, ap, subst, ◌∙◌, append_assoc, length-append, arith}
-use Rattle.std.proofs.lemmas.List.{append-nil, take_all, take-append-drop}
-use Rattle.outside_io.specs.Known.{before_known, after_known, IsEmptyKnown}
-use Rattle.outside_io.specs.Causes.{Rose}
-use Rattle.outside_io.proofs.KnownLaws.{taken_none, taken_more, added_none, added_more}
+use Rattle.std.proofs.Common.{◌≡◌, inl, inr, ℕ, ◌+◌, ◌-◌, ◌/◌, ◌≤◌, List, [], ◌++◌, length, take, drop, Bool, true, Option, Result, Ok, Err, refl, sym, ap, subst, ◌∙◌, append_assoc, length-append, arith}
+use Rattle.std.proofs.lemmas.List.{take_all, take-append-drop}
+use Rattle.outside_io.specs.Known.{before_known, after_known}
+use Rattle.outside_io.proofs.KnownLaws.{taken_none, taken_more, added_more}
 use Rattle.chunk_format.specs.declared.chunk.Chunk.{Chunk}
 use Rattle.segment_pairs.specs.Log.{Finder}
 use Rattle.osiris_audit.specs.declared.window.Fault.{Fault}
 use Rattle.osiris_audit.specs.declared.window.Fault.TheVariants.{Read, Write, Memory, TooLong}
-use Rattle.osiris_audit.specs.Windows.{WindowState, most_bytes, size_read, IsOver, HasEnded, DrainedBy, Drained}
+use Rattle.osiris_audit.specs.Windows.{WindowState, most_bytes, size_read, IsOver, Drained}
 use Rattle.osiris_audit.specs.Matching.{matching}
 use Rattle.osiris_audit.specs.Lines.{lines_of}
 use Rattle.osiris_audit.specs.Writing.{Closes}
-use Rattle.osiris_audit.specs.Inspecting.{EitherOver, Judged, IsFrontOf, FirstLines, last_line, whole_text, Ended, CutLines, Stopped, Tells, Inspects}
-use Rattle.osiris_audit.specs.Steps.{Far, Judges, CutBy, Breaks}
+use Rattle.osiris_audit.specs.Inspecting.{EitherOver, Judged, FirstLines, last_line, whole_text, Ended, Stopped, Inspects}
+use Rattle.osiris_audit.specs.Steps.{Judges, CutBy, Breaks}
 use Rattle.osiris_audit.proofs.Growing.{known_end}
 use Rattle.osiris_audit.proofs.Stepping.{over_segment, over_index}
 

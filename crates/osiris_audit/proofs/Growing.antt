@@ -1,11 +1,11 @@
 -- Windows that go on.
-use Rattle.std.proofs.Common.{◌≡◌, ◌⊎◌, inl, inr, ℕ, ◌+◌, ◌<◌, ◌≤◌, List, [], ◌++◌, length, take, drop, ◌∷◌, Bool, true, false, Option, Result, Ok, Err, refl, sym, ap, subst, ◌∙◌, append_assoc, length-append, arith}
+use Rattle.std.proofs.Common.{◌≡◌, inl, inr, ℕ, ◌+◌, ◌<◌, ◌≤◌, List, [], ◌++◌, length, take, drop, ◌∷◌, Bool, true, false, Option, Result, Ok, Err, refl, sym, ap, subst, ◌∙◌, append_assoc, length-append, arith}
 use Rattle.std.proofs.lemmas.List.{append-nil, length-take-le, length-drop}
 use Rattle.outside_io.specs.Known.{before_known, IsEmptyKnown}
 use Rattle.outside_io.proofs.KnownLaws.{before_none, taken_none, taken_more}
 use Rattle.osiris_audit.specs.declared.window.Fault.{Fault}
 use Rattle.osiris_audit.specs.declared.window.Fault.TheVariants.{Read, Write, Memory, TooLong}
-use Rattle.osiris_audit.specs.Windows.{WindowState, most_bytes, size_read, IsOver, IsNear, HasEnded, Goes, GrewBy, Grew, DrainedBy, Drained, Passes}
+use Rattle.osiris_audit.specs.Windows.{WindowState, most_bytes, size_read, IsOver, IsNear, HasEnded, Goes, GrewBy, Grew, Drained, Passes}
 
 -- nothing came in
 pub goes_none : (left : Option (List ℕ)) (w : WindowState) → size_read w ≤ most_bytes → Goes 0 true [] left w w

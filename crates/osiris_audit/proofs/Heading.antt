@@ -1,20 +1,16 @@
 -- The headers of files that are inspected.
-use Rattle.std.proofs.Common.{◌≡◌, ◌⊎◌, inl, inr, ℕ, ◌+◌, ◌-◌, ◌/◌, ◌<◌, ◌≤◌, List, [], ◌∷◌, ◌++◌, length, take, drop, Bool, true, false, ◌&&◌, Option, Some, None, Result, Ok, Err, refl, sym, ap, subst, ◌∙◌, append_assoc, length-append, arith}
-use Rattle.std.proofs.lemmas.List.{append-nil, take_at, take-append-le, take-append-drop, length-drop}
+use Rattle.std.proofs.Common.{◌≡◌, ◌⊎◌, inl, inr, ℕ, ◌+◌, ◌-◌, ◌/◌, ◌<◌, ◌≤◌, List, [], ◌++◌, length, take, drop, Bool, true, false, ◌&&◌, Option, None, Ok, Err, refl, sym, ap, subst, ◌∙◌, length-append, arith}
+use Rattle.std.proofs.lemmas.List.{take_at, take-append-le, take-append-drop, length-drop}
 use Rattle.std.proofs.lemmas.Bool.{and_right, cases_Bool}
-use Rattle.outside_io.specs.Known.{before_known, after_known, IsEmptyKnown}
+use Rattle.outside_io.specs.Known.{before_known, IsEmptyKnown}
 use Rattle.outside_io.proofs.KnownLaws.{taken_none, added_none}
-use Rattle.chunk_format.specs.declared.chunk.Chunk.{Chunk}
-use Rattle.segment_pairs.specs.Log.{Finder, begins, segment_header, index_header, pair_log, segment_of, index_of}
-use Rattle.segment_pairs.specs.Found.{Walks}
+use Rattle.segment_pairs.specs.Log.{Finder, begins, segment_header, index_header, segment_of, index_of}
 use Rattle.segment_pairs.proofs.Reading.{begins_self, begins_short, begins_split}
 use Rattle.segment_pairs.proofs.Pairs.{pair_headless}
 use Rattle.osiris_audit.specs.declared.window.Fault.{Fault}
 use Rattle.osiris_audit.specs.declared.window.Fault.TheVariants.{Read, Write, Memory, TooLong}
-use Rattle.osiris_audit.specs.Windows.{WindowState, most_bytes, size_read, IsOver, IsNear, Goes, GrewBy, Grew, HasEnded, TakesBy, TakesHeader}
+use Rattle.osiris_audit.specs.Windows.{WindowState, most_bytes, size_read, IsOver, IsNear, Grew, HasEnded, TakesBy, TakesHeader}
 use Rattle.osiris_audit.specs.Matching.{first_in, matching, AllMatch}
-use Rattle.osiris_audit.specs.Lines.{lines_of}
-use Rattle.osiris_audit.specs.Inspecting.{EitherOver, Judged, FirstLines}
 use Rattle.osiris_audit.specs.Steps.{Far, Judges, CutBy, Breaks}
 use Rattle.osiris_audit.proofs.Stepping.{over_segment, over_index}
 

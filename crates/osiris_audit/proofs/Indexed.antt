@@ -1,25 +1,22 @@
 -- An index that is made anew, step by step.
-use Rattle.std.proofs.Common.{◌≡◌, ◌⊎◌, inl, inr, ℕ, zero, suc, ◌+◌, ◌-◌, ◌<◌, ◌≤◌, List, [], ◌∷◌, ◌++◌, length, take, drop, Bool, true, false, ◌==◌, ◌^◌, Option, Some, None, Result, Ok, Err, refl, sym, ap, subst, ◌∙◌, append_assoc, length-append, arith}
+use Rattle.std.proofs.Common.{◌≡◌, inl, inr, ℕ, ◌+◌, ◌<◌, List, [], ◌∷◌, ◌++◌, length, take, drop, Bool, true, false, ◌==◌, ◌^◌, Option, Some, None, Ok, Err, refl, sym, ap, subst, ◌∙◌, append_assoc, length-append, arith}
 use Rattle.std.proofs.lemmas.List.{append-nil, take_at, take_all, take-append-drop, length-drop}
 use Rattle.std.proofs.lemmas.Bool.{and_parts, and_from}
-use Rattle.outside_io.specs.Known.{before_known, after_known, IsEmptyKnown}
-use Rattle.outside_io.proofs.KnownLaws.{taken_none, taken_more, added_none, added_more}
+use Rattle.outside_io.specs.Known.{before_known, after_known}
+use Rattle.outside_io.proofs.KnownLaws.{taken_more, added_none, added_more}
 use Rattle.chunk_format.specs.declared.chunk.Chunk.{Chunk}
 use Rattle.chunk_format.specs.Chunks.{end_of_chunk, IsChunk}
-use Rattle.chunk_format.specs.Faults.{BeginsWith}
-use Rattle.chunk_format.specs.Logs.{end_from}
-use Rattle.segment_pairs.specs.Log.{Finder, spelled, size_of, record_of, begins, segment_header, index_header, Chain, flat, segment_of, index_of}
-use Rattle.segment_pairs.proofs.Reading.{begins_self, begins_parts}
+use Rattle.segment_pairs.specs.Log.{Finder, spelled, size_of, record_of, begins, segment_header, index_header, Chain, segment_of, index_of}
+use Rattle.segment_pairs.proofs.Reading.{begins_parts}
 use Rattle.segment_pairs.proofs.Pairs.{Chain-append, end_from-append, index-push, segment-push, length-segment}
 use Rattle.osiris_audit.specs.declared.window.Fault.{Fault}
 use Rattle.osiris_audit.specs.declared.window.Fault.TheVariants.{Read, Write, Memory, TooLong}
 use Rattle.osiris_audit.specs.declared.indexing.Step.{Step}
-use Rattle.osiris_audit.specs.Windows.{WindowState, most_bytes, size_read, IsOver, Goes, HasEnded, DrainedBy, Drained, TakesEither, TakesBy}
+use Rattle.osiris_audit.specs.Windows.{WindowState, size_read, IsOver, Goes, Drained, TakesEither, TakesBy}
 use Rattle.osiris_audit.specs.Fronts.{MayBegin}
-use Rattle.osiris_audit.specs.Matching.{run_in, index_for}
-use Rattle.osiris_audit.specs.Inspecting.{IsFrontOf}
+use Rattle.osiris_audit.specs.Matching.{run_in}
 use Rattle.osiris_audit.specs.Steps.{end_known}
-use Rattle.osiris_audit.specs.Indexing.{FirstRecords, Partial, IsStopped, NotOther, Makes, Reindexes, Follows, Runs, RunsOut}
+use Rattle.osiris_audit.specs.Indexing.{FirstRecords, Partial, IsStopped, Reindexes, Follows, Runs, RunsOut}
 use Rattle.osiris_audit.proofs.Growing.{known_end}
 use Rattle.osiris_audit.proofs.Running.{run_begins, run_stops, index_begins, keep_records}
 

@@ -7,3 +7,6 @@ pub mod Finishing
 pub mod Running
 pub mod Indexed
 pub mod Seeking
+pub mod Taking
+pub mod Causing
+pub mod Opening

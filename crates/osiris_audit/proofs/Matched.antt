@@ -1,18 +1,15 @@
 -- Which chunks match in files of which these were read.
-use Rattle.std.proofs.Common.{◌≡◌, ◌⊎◌, inl, inr, ℕ, zero, suc, ◌+◌, ◌-◌, ◌*◌, ◌/◌, ◌^◌, ◌<◌, ◌≤◌, List, [], ◌∷◌, ◌++◌, length, take, drop, Bool, true, false, ◌&&◌, Option, Some, None, refl, sym, ap, subst, ◌∙◌, append_assoc, length-append, arith}
-use Rattle.std.proofs.lemmas.List.{append-nil, drop_at, take_at, take-append-drop, take-append-le}
-use Rattle.std.specs.List.{flat_map}
+use Rattle.std.proofs.Common.{◌≡◌, ℕ, zero, ◌+◌, ◌≤◌, List, [], ◌∷◌, ◌++◌, length, take, drop, Option, refl, sym, ap, subst, ◌∙◌, append_assoc, length-append, arith}
+use Rattle.std.proofs.lemmas.List.{append-nil, take_at, take-append-drop, take-append-le}
 use Rattle.chunk_format.specs.declared.chunk.Chunk.{Chunk}
-use Rattle.chunk_format.specs.Chunks.{end_of_chunk, IsChunk}
 use Rattle.chunk_format.specs.Faults.{BeginsWith}
 use Rattle.chunk_format.specs.Logs.{end_from}
 use Rattle.chunk_format.proofs.BeginLaws.{begins_still}
 use Rattle.chunk_format.proofs.ReadLaws.{same_begun}
-use Rattle.segment_pairs.specs.Log.{Finder, spelled, size_of, begins, segment_header, index_header, record_of, chunks_behind, pair_log, Chain, flat, segment_of, index_of, Matches, NoMatch}
+use Rattle.segment_pairs.specs.Log.{Finder, spelled, size_of, begins, segment_header, record_of, chunks_behind, pair_log, Chain, flat, segment_of, index_of, NoMatch}
 use Rattle.segment_pairs.specs.Found.{Walks}
-use Rattle.segment_pairs.proofs.Reading.{length-record, find_front, begins_parts, step_no, no_match_short}
-use Rattle.segment_pairs.proofs.Pairs.{pair_front, pair_headless, length-index, length-segment}
-use Rattle.segment_pairs.proofs.Walking.{walk_start, walk_more}
+use Rattle.segment_pairs.proofs.Reading.{length-record, find_front, step_no}
+use Rattle.segment_pairs.proofs.Pairs.{pair_front, length-segment}
 use Rattle.osiris_audit.specs.Fronts.{NoChunk, MayBegin}
 use Rattle.osiris_audit.specs.Matching.{first_or_zero, first_in, matching, AllMatch}
 use Rattle.osiris_audit.specs.Steps.{end_known}

@@ -1,16 +1,15 @@
 -- The longest run of chunks, and the index of it.
-use Rattle.std.proofs.Common.{◌≡◌, ◌⊎◌, inl, inr, ℕ, zero, suc, ◌+◌, ◌-◌, ◌*◌, ◌^◌, ◌<◌, ◌≤◌, List, [], ◌∷◌, ◌++◌, length, take, drop, Bool, true, false, ◌==◌, ◌&&◌, if◌then◌else◌, Option, Some, None, refl, sym, ap, subst, ◌∙◌, append_assoc, length-append, arith}
-use Rattle.std.proofs.lemmas.List.{append-nil, drop_at, take-append-drop, length-drop}
+use Rattle.std.proofs.Common.{◌≡◌, ◌⊎◌, inl, inr, ℕ, zero, suc, ◌+◌, ◌-◌, ◌≤◌, List, [], ◌∷◌, ◌++◌, length, drop, Bool, true, ◌==◌, if◌then◌else◌, Option, Some, None, refl, sym, ap, subst, ◌∙◌, append_assoc, length-append, arith}
+use Rattle.std.proofs.lemmas.List.{append-nil, drop_at, length-drop}
 use Rattle.std.proofs.lemmas.Bool.{cases_Bool, eqb-true, eq-eqb, and_from}
 use Rattle.chunk_format.specs.declared.chunk.Chunk.{Chunk}
 use Rattle.chunk_format.specs.Chunks.{end_of_chunk, IsChunk}
 use Rattle.chunk_format.specs.Faults.{BeginsWith}
 use Rattle.chunk_format.specs.Logs.{end_from}
-use Rattle.segment_pairs.specs.Log.{Finder, spelled, size_of, record_of, begins, segment_header, index_header, matched, then_more, chunks_behind, pair_log, Chain, flat, records, segment_of, index_of, Matches, NoMatch}
-use Rattle.segment_pairs.proofs.Reading.{some_bytes, begins_spelled, begins_parts, find_front, begins_split, begins_self, length-record, matched_is, step_no, step_yes, matches_found}
-use Rattle.segment_pairs.proofs.Pairs.{index-push, length-segment}
+use Rattle.segment_pairs.specs.Log.{Finder, spelled, size_of, record_of, begins, segment_header, index_header, matched, then_more, chunks_behind, pair_log, Chain, flat, records, segment_of, index_of, Matches}
+use Rattle.segment_pairs.proofs.Reading.{some_bytes, begins_parts, find_front, begins_split, length-record, matched_is, step_no, step_yes, matches_found}
 use Rattle.osiris_audit.specs.Fronts.{MayBegin}
-use Rattle.osiris_audit.specs.Matching.{first_or_zero, first_in, following, run_behind, run_in, index_for}
+use Rattle.osiris_audit.specs.Matching.{first_in, following, run_behind, run_in}
 use Rattle.osiris_audit.specs.Steps.{end_known}
 use Rattle.osiris_audit.specs.Indexing.{Keeps}
 use Rattle.osiris_audit.proofs.Matched.{first_is}

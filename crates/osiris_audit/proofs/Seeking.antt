@@ -1,17 +1,16 @@
 -- Reading a segment on up to the next chunk.
-use Rattle.std.proofs.Common.{◌≡◌, ◌⊎◌, inl, inr, ℕ, ◌+◌, ◌<◌, ◌≤◌, List, [], ◌++◌, length, Bool, true, false, Option, Some, None, Result, Ok, Err, refl, sym, ap, subst, ◌∙◌, arith}
+use Rattle.std.proofs.Common.{◌≡◌, ℕ, ◌+◌, List, ◌++◌, length, Bool, true, false, Option, Some, None, Ok, Err, refl, sym, ap, subst, ◌∙◌, arith}
 use Rattle.std.proofs.lemmas.List.{append-nil}
-use Rattle.chunk_format.specs.declared.chunk.Chunk.{Chunk}
 use Rattle.chunk_format.specs.Faults.{BeginsWith}
-use Rattle.segment_pairs.specs.Log.{size_of, record_of, Matches, NoMatch}
+use Rattle.segment_pairs.specs.Log.{size_of}
 use Rattle.osiris_audit.specs.declared.window.Fault.{Fault}
 use Rattle.osiris_audit.specs.declared.indexing.Step.{Step}
 use Rattle.osiris_audit.specs.declared.inspection.Look.{Look}
 use Rattle.osiris_audit.specs.declared.inspection.Look.TheVariants as look
-use Rattle.osiris_audit.specs.Windows.{WindowState, most_bytes, size_read, IsOver, Goes, Grew}
-use Rattle.osiris_audit.specs.Fronts.{NoChunk, MayBegin}
-use Rattle.osiris_audit.specs.Steps.{Looks, LooksOr, FindsBy, Finds}
-use Rattle.osiris_audit.specs.Indexing.{Follows, FollowsOr, NextBy, Nexts}
+use Rattle.osiris_audit.specs.Windows.{WindowState, size_read, IsOver, Grew}
+use Rattle.osiris_audit.specs.Fronts.{NoChunk}
+use Rattle.osiris_audit.specs.Steps.{Looks, LooksOr, Finds}
+use Rattle.osiris_audit.specs.Indexing.{Follows, FollowsOr, Nexts}
 use Rattle.osiris_audit.proofs.Growing.{grew_then, size_goes, none_came}
 
 -- ---- of an index that is made

@@ -1,15 +1,14 @@
 -- An inspection, step by step.
-use Rattle.std.proofs.Common.{◌≡◌, ◌⊎◌, inl, inr, ℕ, zero, suc, ◌+◌, ◌-◌, ◌*◌, ◌/◌, ◌^◌, ◌<◌, ◌≤◌, List, [], ◌∷◌, ◌++◌, length, take, drop, Bool, true, false, ◌==◌, Option, Some, None, Result, Ok, Err, refl, sym, ap, subst, ◌∙◌, append_assoc, length-append, arith}
+use Rattle.std.proofs.Common.{◌≡◌, inl, inr, ℕ, suc, ◌+◌, ◌-◌, ◌*◌, ◌/◌, ◌<◌, ◌≤◌, List, [], ◌∷◌, ◌++◌, length, take, drop, Bool, true, false, ◌==◌, Option, Some, refl, sym, ap, subst, ◌∙◌, append_assoc, length-append, arith}
 use Rattle.std.proofs.lemmas.List.{append-nil, take_at, take-append-drop, length-drop}
 use Rattle.std.proofs.lemmas.Grind.{flat_map-append}
 use Rattle.std.proofs.lemmas.Bool.{eqb-true, eq-eqb}
-use Rattle.std.specs.List.{flat_map}
-use Rattle.outside_io.specs.Known.{before_known, after_known, IsEmptyKnown}
-use Rattle.outside_io.proofs.KnownLaws.{taken_none, taken_more, added_none, added_more}
+use Rattle.outside_io.specs.Known.{before_known, after_known}
+use Rattle.outside_io.proofs.KnownLaws.{taken_more, added_more}
 use Rattle.chunk_format.specs.declared.chunk.Chunk.{Chunk}
 use Rattle.chunk_format.specs.Chunks.{end_of_chunk}
 use Rattle.chunk_format.specs.Logs.{end_from}
-use Rattle.segment_pairs.specs.Log.{Finder, size_of, segment_of, index_of, record_of, Matches, NoMatch}
+use Rattle.segment_pairs.specs.Log.{Finder, size_of, segment_of, index_of, Matches, NoMatch}
 use Rattle.segment_pairs.specs.Found.{Walks}
 use Rattle.segment_pairs.proofs.Reading.{no_match_short}
 use Rattle.segment_pairs.proofs.Pairs.{end_from-append, length-index}
@@ -17,13 +16,13 @@ use Rattle.segment_pairs.proofs.Walking.{walk_more, match_fits, match_long}
 use Rattle.osiris_audit.specs.declared.window.Fault.{Fault}
 use Rattle.osiris_audit.specs.declared.window.Fault.TheVariants.{Read, Write, Memory, TooLong}
 use Rattle.osiris_audit.specs.declared.inspection.Look.TheVariants as look
-use Rattle.osiris_audit.specs.Windows.{WindowState, most_bytes, size_read, IsOver, Goes, Grew}
+use Rattle.osiris_audit.specs.Windows.{WindowState, most_bytes, size_read, IsOver, Goes}
 use Rattle.osiris_audit.specs.Fronts.{MayBegin}
 use Rattle.osiris_audit.specs.Matching.{matching}
 use Rattle.osiris_audit.specs.Lines.{chunk_lines, lines_of}
-use Rattle.osiris_audit.specs.Inspecting.{EitherOver, Judged, IsFrontOf, FirstLines}
-use Rattle.osiris_audit.specs.Steps.{end_known, Looks, FindsBy, Finds, Far, Judges, CutBy, Breaks}
-use Rattle.osiris_audit.proofs.Growing.{known_end, size_goes}
+use Rattle.osiris_audit.specs.Inspecting.{EitherOver, Judged, FirstLines}
+use Rattle.osiris_audit.specs.Steps.{end_known, Looks, Far, Judges, CutBy, Breaks}
+use Rattle.osiris_audit.proofs.Growing.{known_end}
 use Rattle.osiris_audit.proofs.Matched.{walk_segment, walk_index, walk_grows, walk_anew, segment_size, index_size, matching_front, matching_stops, all_match, not_all}
 
 -- ---- reading on

@@ -1,9 +1,9 @@
 -- Bytes that a chunk goes on from, and bytes that it doesn't.
-use Rattle.std.proofs.Common.{◌≡◌, ◌⊎◌, inl, inr, ℕ, ◌+◌, ◌-◌, ◌%◌, ◌/◌, ◌^◌, ◌<◌, ◌≤◌, List, [], ◌++◌, length, take, drop, Option, Bool, true, false, Result, Ok, Err, MatchResult, refl, sym, ap, subst, ◌∙◌, append_assoc, length-append, arith}
+use Rattle.std.proofs.Common.{◌≡◌, ◌⊎◌, inl, inr, ℕ, ◌%◌, ◌/◌, ◌^◌, ◌<◌, ◌≤◌, List, ◌++◌, length, take, drop, Option, Bool, true, false, Result, Err, refl, sym, ap, subst, ◌∙◌, length-append, arith}
 use Rattle.std.specs.Prelude.{IsTrue, ◌↔◌}
 use Rattle.std.specs.List.{All}
 use Rattle.std.proofs.lemmas.Bool.{cases_lt}
-use Rattle.std.proofs.lemmas.List.{take-append-le, take-append-drop, take_all, take-take, take_at, length-take, length-take-le}
+use Rattle.std.proofs.lemmas.List.{take-append-le, take-append-drop, take_all, take-take, take_at, length-take-le}
 use Rattle.std.proofs.lemmas.List.Sums.{sum_by-le}
 use Rattle.frame_wire.specs.Fields.{u32_bytes, u64_bytes}
 use Rattle.chunk_format.specs.declared.entry.Entry.{Entry}
@@ -13,7 +13,7 @@ use Rattle.chunk_format.specs.declared.chunk.Header.{Header}
 use Rattle.chunk_format.specs.declared.fault.ChunkFault.{ChunkFault}
 use Rattle.chunk_format.specs.declared.fault.ChunkFault.TheVariants.{Short}
 use Rattle.chunk_format.specs.Chunks.{IsEntry, entry_records, records_of, entries_bytes, head_bytes, header_bytes, header_of, chunk_bytes, IsChunk}
-use Rattle.chunk_format.specs.Faults.{IsHeader, HeaderStands, whole_len, ChunkWrong, BeginsWith}
+use Rattle.chunk_format.specs.Faults.{IsHeader, HeaderStands, ChunkWrong, BeginsWith}
 use Rattle.chunk_format.proofs.ChunkLaws.{first_fits, header_length, chunk_length}
 use Rattle.chunk_format.proofs.TagLaws.{trailer_fits}
 use Rattle.chunk_format.proofs.BeginLaws.{begins_still}

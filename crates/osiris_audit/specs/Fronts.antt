@@ -1,9 +1,8 @@
 -- What stands in front of bytes that may go on.
-use Rattle.std.specs.Prelude.{◌≡◌, ℕ, ◌++◌, ◌⊎◌, List, [], length, drop, Bool, true, Option, Some, None}
+use Rattle.std.specs.Prelude.{◌≡◌, ℕ, ◌++◌, List, Option, Some, None}
 use Rattle.chunk_format.specs.declared.chunk.Chunk.{Chunk}
-use Rattle.chunk_format.specs.Chunks.{end_of_chunk}
 use Rattle.chunk_format.specs.Faults.{BeginsWith}
-use Rattle.segment_pairs.specs.Log.{size_of, record_of, Matches, NoMatch}
+use Rattle.segment_pairs.specs.Log.{size_of}
 use Rattle.osiris_audit.specs.declared.front.Front.{Front}
 use Rattle.osiris_audit.specs.declared.front.Front.TheVariants as front
 

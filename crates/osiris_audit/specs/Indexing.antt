@@ -1,10 +1,9 @@
 -- What an index that is made anew is.
-use Rattle.std.specs.Prelude.{◌≡◌, ◌⊎◌, ℕ, ◌+◌, ◌<◌, ◌≤◌, List, [], ◌∷◌, ◌++◌, length, take, drop, Bool, true, false, Option, Some, None, Result, Ok, Err}
+use Rattle.std.specs.Prelude.{◌≡◌, ◌⊎◌, ℕ, ◌+◌, ◌<◌, ◌≤◌, List, [], ◌++◌, length, take, Bool, true, false, Option, Some, None, Result, Ok, Err}
 use Rattle.outside_io.specs.Known.{before_known, after_known, IsEmptyKnown}
 use Rattle.chunk_format.specs.declared.chunk.Chunk.{Chunk}
 use Rattle.chunk_format.specs.Chunks.{end_of_chunk}
 use Rattle.chunk_format.specs.Faults.{BeginsWith}
-use Rattle.chunk_format.specs.Logs.{end_from}
 use Rattle.segment_pairs.specs.Log.{Finder, size_of, record_of, begins, segment_header, index_header, pair_log, Chain, segment_of, index_of}
 use Rattle.osiris_audit.specs.declared.window.Fault.{Fault}
 use Rattle.osiris_audit.specs.declared.window.Fault.TheVariants.{Read, Write, Memory, TooLong}
@@ -106,6 +105,12 @@ pub record RunsOut (s0 s w0 w : Option (List ℕ)) (window : WindowState) : Type
   pub short : size_read window ≤ most_bytes
   pub header : begins segment_header segment ≡ true
   pub made : (F : Finder) (more : List ℕ) → (window.ended ≡ true → more ≡ []) → text ≡ index_for F (segment ++ more)
+
+-- what came of the next chunk: its record was written, or none follows
+abbrev pub StepGives : Result Bool Fault → Option (List ℕ) → Option (List ℕ) → Option (List ℕ) → Option (List ℕ) → WindowState → Option ℕ → Type 0
+StepGives (Ok true) s0 s w0 w window end = Runs s0 s w0 w window end
+StepGives (Ok false) s0 s w0 w window end = RunsOut s0 s w0 w window
+StepGives (Err fault) s0 s w0 w window end = Reindexes (Err fault) s0 s w0 w
 
 abbrev pub IndexesBy : Result (Unit {0}) Fault → Option (List ℕ) → Option (List ℕ) → Option (List ℕ) → Option (List ℕ) → WindowState → Type 0
 IndexesBy (Ok done) s0 s w0 w window = RunsOut s0 s w0 w window

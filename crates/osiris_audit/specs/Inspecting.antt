@@ -1,5 +1,5 @@
 -- What an inspection of a segment and its index tells.
-use Rattle.std.specs.Prelude.{◌≡◌, ◌⊎◌, ℕ, ◌+◌, ◌-◌, ◌/◌, ◌<◌, ◌≤◌, List, [], ◌∷◌, ◌++◌, length, take, drop, Bool, true, false, if◌then◌else◌, Option, Some, None, Result, Ok, Err}
+use Rattle.std.specs.Prelude.{◌≡◌, ◌⊎◌, ℕ, ◌<◌, ◌≤◌, List, ◌++◌, length, take, Bool, true, false, if◌then◌else◌, Option, Result, Ok, Err}
 use Rattle.outside_io.specs.Known.{before_known, after_known, IsEmptyKnown}
 use Rattle.segment_pairs.specs.Log.{Finder}
 use Rattle.osiris_audit.specs.declared.window.Fault.{Fault}

@@ -1,5 +1,5 @@
 -- Which records of an index match, where the first chunk of the segment may begin at any offset.
-use Rattle.std.specs.Prelude.{◌≡◌, ℕ, zero, suc, ◌-◌, ◌∷◌, List, [], drop, true, Option, Some, None, Bool, if◌then◌else◌, ◌==◌}
+use Rattle.std.specs.Prelude.{◌≡◌, ℕ, zero, suc, ◌-◌, ◌∷◌, List, [], drop, true, Option, Some, None, if◌then◌else◌, ◌==◌}
 use Rattle.chunk_format.specs.declared.chunk.Chunk.{Chunk}
 use Rattle.chunk_format.specs.Chunks.{end_of_chunk}
 use Rattle.segment_pairs.specs.Log.{Finder, size_of, begins, segment_header, then_more, pair_log, index_of}

@@ -1,5 +1,5 @@
 -- Bytes of a file that are read in pieces, and what reading on does.
-use Rattle.std.specs.Prelude.{◌≡◌, ◌⊎◌, ℕ, ◌+◌, ◌<◌, ◌≤◌, List, ◌++◌, [], length, drop, Bool, true, false, Option, Result, Ok, Err}
+use Rattle.std.specs.Prelude.{◌≡◌, ◌⊎◌, ℕ, ◌+◌, ◌<◌, ◌≤◌, List, ◌++◌, [], length, Bool, true, false, Option, Result, Ok, Err}
 use Rattle.outside_io.specs.Known.{before_known, IsEmptyKnown}
 use Rattle.segment_pairs.specs.Log.{begins}
 use Rattle.osiris_audit.specs.declared.window.Fault.{Fault}

@@ -1,5 +1,5 @@
 -- A piece that is written, and reads of two files.
-use Rattle.std.specs.Prelude.{◌≡◌, ◌⊎◌, ℕ, ◌≤◌, List, take, Option, Bool, Result, Ok, Err, ◌++◌}
+use Rattle.std.specs.Prelude.{◌≡◌, ◌⊎◌, ℕ, ◌≤◌, List, take, Option, Bool, Result, Ok, Err}
 use Rattle.outside_io.specs.Known.{after_known}
 use Rattle.outside_io.specs.Causes.{Rose}
 use Rattle.osiris_audit.specs.declared.window.Fault.{Fault}

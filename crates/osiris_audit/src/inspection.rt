@@ -25,7 +25,7 @@ pub const SEGMENT_HEADER: [u8; 8] = [b'O', b'S', b'I', b'L', 0, 0, 0, 1];
 pub const INDEX_HEADER: [u8; 8] = [b'O', b'S', b'I', b'I', 0, 0, 0, 1];
 
 /// The bytes of a record.
-const RECORD: usize = 29;
+pub(crate) const RECORD: usize = 29;
 
 /// What stands where the next chunk is to be.
 #[derive(Clone, Copy, Debug, PartialEq, Eq)]

@@ -1,6 +1,3 @@
-use Rattle.std.proofs.Common.{◌≡◌, ℕ, Result, Err, refl}
-use Rattle.chunk_format.specs.declared.chunk.Chunk.{Chunk}
-use Rattle.chunk_format.specs.declared.fault.ChunkFault.{ChunkFault}
 use Rattle.chunk_format.specs.declared.fault.ChunkFault.TheVariants.{Short}
 use Rattle.osiris_audit.proofs.Truncated.{whole_chunk, never_stands, same_told}
 use Rattle.osiris_audit.proofs.front.chunk_in_front.Goals as goal

@@ -1,6 +1,5 @@
-use Rattle.std.proofs.Common.{◌≡◌, true, false, refl, sym, ◌∙◌, ap, subst}
+use Rattle.std.proofs.Common.{ap}
 use Rattle.chunk_format.specs.declared.chunk.Header.{Header}
-use Rattle.osiris_audit.specs.Fronts.{MayBegin}
 use Rattle.osiris_audit.proofs.Truncated.{only_front, not_begun}
 use Rattle.osiris_audit.proofs.indexing.follow.Goals as goal
 

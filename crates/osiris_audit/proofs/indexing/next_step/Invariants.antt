@@ -1,4 +1,4 @@
-use Rattle.std.proofs.Common.{◌≡◌, ◌≤◌, ◌-◌, [], true, Ok}
+use Rattle.std.proofs.Common.{◌≤◌, ◌-◌, true, Ok}
 use Rattle.osiris_audit.specs.Windows.{Grew, most_bytes, size_read}
 use Rattle.osiris_audit.proofs.indexing.next_step.Given as goal
 

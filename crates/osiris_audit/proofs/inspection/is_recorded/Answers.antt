@@ -1,4 +1,4 @@
-use Rattle.std.proofs.Common.{◌≡◌, refl, sym, ◌∙◌, ap, subst, arith}
+use Rattle.std.proofs.Common.{refl, ap, subst}
 use Rattle.chunk_format.specs.declared.chunk.Header.{Header}
 use Rattle.segment_pairs.proofs.Walking.{recorded_front, front_recorded}
 use Rattle.osiris_audit.specs.Fronts.{MayBegin}

@@ -1,4 +1,4 @@
-use Rattle.std.proofs.Common.{refl, ap, length, arith}
+use Rattle.std.proofs.Common.{ap, length, arith}
 use Rattle.osiris_audit.proofs.Growing.{passes_none, passes_skip, passes_more, passes_broken}
 use Rattle.osiris_audit.proofs.window.Window.drain.Goals as goal
 

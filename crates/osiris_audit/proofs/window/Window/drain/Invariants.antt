@@ -1,4 +1,4 @@
-use Rattle.std.proofs.Common.{◌≡◌, ◌≤◌, ◌-◌, length, true, Ok}
+use Rattle.std.proofs.Common.{◌≤◌, ◌-◌}
 use Rattle.osiris_audit.specs.Windows.{Passes, most_bytes, size_read}
 use Rattle.osiris_audit.proofs.window.Window.drain.Given as goal
 

@@ -1,4 +1,4 @@
-use Rattle.std.proofs.Common.{◌≡◌, ◌≤◌, ◌-◌, length, true, Ok}
+use Rattle.std.proofs.Common.{◌≤◌, ◌-◌, length, true, Ok}
 use Rattle.osiris_audit.specs.Windows.{Grew}
 use Rattle.osiris_audit.proofs.window.Window.need.Given as goal
 
