@@ -1,0 +1,9 @@
+pub mod Lists
+pub mod Alike
+pub mod Pipes
+pub mod Inputs
+pub mod Holding
+pub mod Serving
+pub mod Calling
+pub mod Running
+pub mod Worked

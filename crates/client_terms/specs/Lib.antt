@@ -1,0 +1,4 @@
+pub mod States
+pub mod Sending
+pub mod Hearing
+pub mod Steps
