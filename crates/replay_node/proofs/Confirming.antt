@@ -3,9 +3,9 @@ use Rattle.std.proofs.Common.{◌≡◌, ◌==◌, Bool, true, false, cond, not,
 use Rattle.replay_node.specs.declared.session.Offer.{Offer}
 use Rattle.command_data.specs.declared.command.DataCommand.TheVariants.{PublishError}
 use Rattle.replay_node.specs.Sessions.{refusals}
-use Rattle.replay_node.specs.declared.script.ScriptLine.{ScriptLine}
-use Rattle.replay_node.specs.declared.script.ScriptLine.TheVariants.{Create, Prepare, Give, Poll, Settle}
-use Rattle.replay_node.specs.Outputs.{Output}
+use Rattle.script_text.specs.declared.script.ScriptLine.{ScriptLine}
+use Rattle.script_text.specs.declared.script.ScriptLine.TheVariants.{Create, Prepare, Give, Poll, Settle}
+use Rattle.script_text.specs.declared.output.OutputLine.{OutputLine}
 use Rattle.replay_node.specs.NodeState.{NodeState, new_node, LineGives, confirm_of, offers_of, offers_of_others, send}
 use Rattle.std.proofs.lemmas.Grind.{flat_map-append}
 use Rattle.replay_node.specs.Replays.{Answers}
@@ -54,22 +54,22 @@ in_either x c (o ∷ offers) (inl same) = picked_or_left x o (o.connection == c)
 in_either x c (o ∷ offers) (inr h) = picked_or_left x o (o.connection == c) (offers_of c offers) (offers_of_others c offers) (inr (in_either x c offers h))
 
 -- an offer is not confirmed yet, or its confirm was written
-abbrev Owed : Offer → NodeState → List Output → Type 0
+abbrev Owed : Offer → NodeState → List OutputLine → Type 0
 Owed x node written = IsIn x node.queued ⊎ (IsIn x node.unconfirmed ⊎ IsIn (confirm_of x) written)
 
 -- it is committed, or its confirm was written
-abbrev Due : Offer → NodeState → List Output → Type 0
+abbrev Due : Offer → NodeState → List OutputLine → Type 0
 Due x node written = IsIn x node.unconfirmed ⊎ IsIn (confirm_of x) written
 
-due_same : (x : Offer) (old new : NodeState) (written outputs : List Output) → new.unconfirmed ≡ old.unconfirmed → Due x old written → Due x new (written ++ outputs)
+due_same : (x : Offer) (old new : NodeState) (written outputs : List OutputLine) → new.unconfirmed ≡ old.unconfirmed → Due x old written → Due x new (written ++ outputs)
 due_same x old new written outputs same (inl h) = inl (subst (IsIn x) (sym same) h)
 due_same x old new written outputs same (inr h) = inr (in_left (confirm_of x) written outputs h)
 
-owed_same : (x : Offer) (old new : NodeState) (written outputs : List Output) → new.queued ≡ old.queued → new.unconfirmed ≡ old.unconfirmed → Owed x old written → Owed x new (written ++ outputs)
+owed_same : (x : Offer) (old new : NodeState) (written outputs : List OutputLine) → new.queued ≡ old.queued → new.unconfirmed ≡ old.unconfirmed → Owed x old written → Owed x new (written ++ outputs)
 owed_same x old new written outputs queue same (inl h) = inl (subst (IsIn x) (sym queue) h)
 owed_same x old new written outputs queue same (inr h) = inr (due_same x old new written outputs same h)
 
-due_polled : (x : Offer) (c : ℕ) (old new : NodeState) (written outputs : List Output) → outputs ≡ map confirm_of (offers_of c old.unconfirmed) → new.unconfirmed ≡ offers_of_others c old.unconfirmed → Due x old written → Due x new (written ++ outputs)
+due_polled : (x : Offer) (c : ℕ) (old new : NodeState) (written outputs : List OutputLine) → outputs ≡ map confirm_of (offers_of c old.unconfirmed) → new.unconfirmed ≡ offers_of_others c old.unconfirmed → Due x old written → Due x new (written ++ outputs)
 due_polled x c old new written outputs is left (inr h) = inr (in_left (confirm_of x) written outputs h)
 due_polled x c old new written outputs is left (inl h) =
     elim (in_either x c old.unconfirmed h) [
@@ -77,28 +77,29 @@ due_polled x c old new written outputs is left (inl h) =
       | inr other ↦ inl (subst (IsIn x) (sym left) other)
     ]
 
-due_settled : (x : Offer) (old new : NodeState) (written outputs : List Output) → new.unconfirmed ≡ old.unconfirmed ++ old.queued → Owed x old written → Due x new (written ++ outputs)
+due_settled : (x : Offer) (old new : NodeState) (written outputs : List OutputLine) → new.unconfirmed ≡ old.unconfirmed ++ old.queued → Owed x old written → Due x new (written ++ outputs)
 due_settled x old new written outputs is (inl h) = inl (subst (IsIn x) (sym is) (in_right x old.unconfirmed old.queued h))
 due_settled x old new written outputs is (inr (inl h)) = inl (subst (IsIn x) (sym is) (in_left x old.unconfirmed old.queued h))
 due_settled x old new written outputs is (inr (inr h)) = inr (in_left (confirm_of x) written outputs h)
 
-due_line : (x : Offer) (old new : NodeState) (line : ScriptLine) (outputs written : List Output) → LineGives old line outputs new → Due x old written → Due x new (written ++ outputs)
+due_line : (x : Offer) (old new : NodeState) (line : ScriptLine) (outputs written : List OutputLine) → LineGives old line outputs new → Due x old written → Due x new (written ++ outputs)
 due_line x old new (Create name) outputs written gives h = due_same x old new written outputs (ap (λ (n : NodeState). n.unconfirmed) gives.2) h
 due_line x old new (Prepare connection name) outputs written gives h = due_same x old new written outputs (ap (λ (n : NodeState). n.unconfirmed) gives.6) h
 due_line x old new (Give connection bytes) outputs written gives h = due_same x old new written outputs (ap (λ (n : NodeState). n.unconfirmed) gives.is) h
 due_line x old new (Poll connection) outputs written gives h = due_polled x connection old new written outputs gives.1 (ap (λ (n : NodeState). n.unconfirmed) gives.2) h
 due_line x old new (Settle stream) outputs written gives h = due_settled x old new written outputs (ap (λ (n : NodeState). n.unconfirmed) gives.4) (inr h)
+due_line x old new other outputs written gives h = absurd gives
 
-owed_polled : (x : Offer) (c : ℕ) (old new : NodeState) (written outputs : List Output) → new.queued ≡ old.queued → outputs ≡ map confirm_of (offers_of c old.unconfirmed) → new.unconfirmed ≡ offers_of_others c old.unconfirmed → Owed x old written
+owed_polled : (x : Offer) (c : ℕ) (old new : NodeState) (written outputs : List OutputLine) → new.queued ≡ old.queued → outputs ≡ map confirm_of (offers_of c old.unconfirmed) → new.unconfirmed ≡ offers_of_others c old.unconfirmed → Owed x old written
     → Owed x new (written ++ outputs)
 owed_polled x c old new written outputs queue is left (inl h) = inl (subst (IsIn x) (sym queue) h)
 owed_polled x c old new written outputs queue is left (inr h) = inr (due_polled x c old new written outputs is left h)
 
-owed_given : (x : Offer) (more : List Offer) (old new : NodeState) (written outputs : List Output) → new.queued ≡ old.queued ++ more → new.unconfirmed ≡ old.unconfirmed → Owed x old written → Owed x new (written ++ outputs)
+owed_given : (x : Offer) (more : List Offer) (old new : NodeState) (written outputs : List OutputLine) → new.queued ≡ old.queued ++ more → new.unconfirmed ≡ old.unconfirmed → Owed x old written → Owed x new (written ++ outputs)
 owed_given x more old new written outputs queue same (inl h) = inl (subst (IsIn x) (sym queue) (in_left x old.queued more h))
 owed_given x more old new written outputs queue same (inr h) = inr (due_same x old new written outputs same h)
 
-owed_line : (x : Offer) (old new : NodeState) (line : ScriptLine) (outputs written : List Output) → LineGives old line outputs new → Owed x old written → Owed x new (written ++ outputs)
+owed_line : (x : Offer) (old new : NodeState) (line : ScriptLine) (outputs written : List OutputLine) → LineGives old line outputs new → Owed x old written → Owed x new (written ++ outputs)
 owed_line x old new (Create name) outputs written gives h = owed_same x old new written outputs (ap (λ (n : NodeState). n.queued) gives.2) (ap (λ (n : NodeState). n.unconfirmed) gives.2) h
 owed_line x old new (Prepare connection name) outputs written gives h = owed_same x old new written outputs (ap (λ (n : NodeState). n.queued) gives.6) (ap (λ (n : NodeState). n.unconfirmed) gives.6) h
 owed_line x old new (Give connection bytes) outputs written gives h =
@@ -106,17 +107,18 @@ owed_line x old new (Give connection bytes) outputs written gives h =
 owed_line x old new (Poll connection) outputs written gives h =
     owed_polled x connection old new written outputs (ap (λ (n : NodeState). n.queued) gives.2) gives.1 (ap (λ (n : NodeState). n.unconfirmed) gives.2) h
 owed_line x old new (Settle stream) outputs written gives h = inr (due_settled x old new written outputs (ap (λ (n : NodeState). n.unconfirmed) gives.4) h)
+owed_line x old new other outputs written gives h = absurd gives
 
-polled_due : (x : Offer) (old : NodeState) (outputs written : List Output) → outputs ≡ map confirm_of (offers_of x.connection old.unconfirmed) → Due x old written → IsIn (confirm_of x) (written ++ outputs)
+polled_due : (x : Offer) (old : NodeState) (outputs written : List OutputLine) → outputs ≡ map confirm_of (offers_of x.connection old.unconfirmed) → Due x old written → IsIn (confirm_of x) (written ++ outputs)
 polled_due x old outputs written is (inl h) =
     in_right (confirm_of x) written outputs (subst (IsIn (confirm_of x)) (sym is) (in_map confirm_of x (offers_of x.connection old.unconfirmed) (in_picked x x.connection old.unconfirmed refl h)))
 polled_due x old outputs written is (inr h) = in_left (confirm_of x) written outputs h
 
 -- it is in all that was written by then
-by_then : (x : Output) (written o rest : List Output) → IsIn x ((written ++ o) ++ rest) → IsIn x (written ++ (o ++ rest))
+by_then : (x : OutputLine) (written o rest : List OutputLine) → IsIn x ((written ++ o) ++ rest) → IsIn x (written ++ (o ++ rest))
 by_then x written o rest h = subst (IsIn x) (append_assoc written o rest) h
 
-after_settle : (x : Offer) (mid new : NodeState) (later : List ScriptLine) (outs : List (List Output)) (written : List Output) → Due x mid written → Answers mid (later ++ Poll x.connection ∷ []) outs new → IsIn (confirm_of x) (written ++ all_outputs outs)
+after_settle : (x : Offer) (mid new : NodeState) (later : List ScriptLine) (outs : List (List OutputLine)) (written : List OutputLine) → Due x mid written → Answers mid (later ++ Poll x.connection ∷ []) outs new → IsIn (confirm_of x) (written ++ all_outputs outs)
 after_settle x mid new [] [] written due answers = absurd answers
 after_settle x mid new [] (o ∷ outs) written due answers =
     by_then (confirm_of x) written o (all_outputs outs) (in_left (confirm_of x) (written ++ o) (all_outputs outs) (polled_due x mid o written answers.1.1 due))
@@ -124,7 +126,7 @@ after_settle x mid new (line ∷ later) [] written due answers = absurd answers
 after_settle x mid new (line ∷ later) (o ∷ outs) written due answers =
     by_then (confirm_of x) written o (all_outputs outs) (after_settle x answers.0 new later outs (written ++ o) (due_line x mid answers.0 line o written answers.1 due) answers.2)
 
-after_give : (stream : ℕ) (x : Offer) (mid new : NodeState) (between later : List ScriptLine) (outs : List (List Output)) (written : List Output) → Owed x mid written
+after_give : (stream : ℕ) (x : Offer) (mid new : NodeState) (between later : List ScriptLine) (outs : List (List OutputLine)) (written : List OutputLine) → Owed x mid written
     → Answers mid (between ++ Settle stream ∷ (later ++ Poll x.connection ∷ [])) outs new → IsIn (confirm_of x) (written ++ all_outputs outs)
 after_give stream x mid new [] later [] written owed answers = absurd answers
 after_give stream x mid new [] later (o ∷ outs) written owed answers =
@@ -135,16 +137,16 @@ after_give stream x mid new (line ∷ between) later (o ∷ outs) written owed a
     by_then (confirm_of x) written o (all_outputs outs) (after_give stream x answers.0 new between later outs (written ++ o) (owed_line x mid answers.0 line o written answers.1 owed) answers.2)
 
 -- what lines and then others gave
-pub record IsSplit (old new : NodeState) (xs ys : List ScriptLine) (outs : List (List Output)) : Type 0 where
+pub record IsSplit (old new : NodeState) (xs ys : List ScriptLine) (outs : List (List OutputLine)) : Type 0 where
   pub mid : NodeState
-  pub front : List (List Output)
-  pub back : List (List Output)
+  pub front : List (List OutputLine)
+  pub back : List (List OutputLine)
   pub parts : outs ≡ front ++ back
   pub len : length front ≡ length xs
   pub first : Answers old xs front mid
   pub second : Answers mid ys back new
 
-split : (old new : NodeState) (xs ys : List ScriptLine) (outs : List (List Output)) → Answers old (xs ++ ys) outs new → IsSplit old new xs ys outs
+split : (old new : NodeState) (xs ys : List ScriptLine) (outs : List (List OutputLine)) → Answers old (xs ++ ys) outs new → IsSplit old new xs ys outs
 split old new [] ys outs answers = record { mid = old; front = []; back = outs; parts = refl; len = refl; first = refl; second = answers }
 split old new (x ∷ xs) ys [] answers = absurd answers
 split old new (x ∷ xs) ys (o ∷ outs) answers =
@@ -153,29 +155,29 @@ split old new (x ∷ xs) ys (o ∷ outs) answers =
       mid = rest.mid;
       front = o ∷ rest.front;
       back = rest.back;
-      parts = ap (λ (l : List (List Output)). o ∷ l) rest.parts;
+      parts = ap (λ (l : List (List OutputLine)). o ∷ l) rest.parts;
       len = let len = rest.len in omega arith;
       first = (answers.0, answers.1, rest.first);
       second = rest.second;
     }
 
 -- the first of some lines, and those behind it
-pub record IsHead (old new : NodeState) (line : ScriptLine) (lines : List ScriptLine) (outs : List (List Output)) : Type 0 where
-  pub first : List Output
-  pub more : List (List Output)
+pub record IsHead (old new : NodeState) (line : ScriptLine) (lines : List ScriptLine) (outs : List (List OutputLine)) : Type 0 where
+  pub first : List OutputLine
+  pub more : List (List OutputLine)
   pub parts : outs ≡ first ∷ more
   pub after : NodeState
   pub gives : LineGives old line first after
   pub rest : Answers after lines more new
 
-head_of : (old new : NodeState) (line : ScriptLine) (lines : List ScriptLine) (outs : List (List Output)) → Answers old (line ∷ lines) outs new → IsHead old new line lines outs
+head_of : (old new : NodeState) (line : ScriptLine) (lines : List ScriptLine) (outs : List (List OutputLine)) → Answers old (line ∷ lines) outs new → IsHead old new line lines outs
 head_of old new line lines [] answers = absurd answers
 head_of old new line lines (o ∷ outs) answers = record { first = o; more = outs; parts = refl; after = answers.0; gives = answers.1; rest = answers.2 }
 
-outputs_parts : (front : List (List Output)) (first : List Output) (more : List (List Output)) → all_outputs (front ++ first ∷ more) ≡ all_outputs front ++ (first ++ all_outputs more)
-outputs_parts front first more = flat_map-append (λ (o : List Output). o) front (first ∷ more)
+outputs_parts : (front : List (List OutputLine)) (first : List OutputLine) (more : List (List OutputLine)) → all_outputs (front ++ first ∷ more) ≡ all_outputs front ++ (first ++ all_outputs more)
+outputs_parts front first more = flat_map-append (λ (o : List OutputLine). o) front (first ∷ more)
 
-pub each_confirmed : (node : NodeState) (lines : List ScriptLine) (outs : List (List Output)) → Answers new_node lines outs node → EachConfirmed lines outs
+pub each_confirmed : (node : NodeState) (lines : List ScriptLine) (outs : List (List OutputLine)) → Answers new_node lines outs node → EachConfirmed lines outs
 each_confirmed node lines outs answers before between later after c stream bytes e =
     let upto : List ScriptLine = given_settled_polled before c bytes between stream later in
     let behind : List ScriptLine = between ++ Settle stream ∷ (later ++ Poll c ∷ []) in
@@ -183,10 +185,10 @@ each_confirmed node lines outs answers before between later after c stream bytes
     let halves = split new_node parts.mid before (Give c bytes ∷ behind) parts.front parts.first in
     let step = head_of halves.mid parts.mid (Give c bytes) behind halves.back halves.second in
     let whole : outs ≡ halves.front ++ step.first ∷ (step.more ++ parts.back) =
-    parts.parts ∙ ap (λ (l : List (List Output)). l ++ parts.back) (halves.parts ∙ ap (λ (l : List (List Output)). halves.front ++ l) step.parts) ∙ append_assoc halves.front (step.first ∷ step.more) parts.back in
+    parts.parts ∙ ap (λ (l : List (List OutputLine)). l ++ parts.back) (halves.parts ∙ ap (λ (l : List (List OutputLine)). halves.front ++ l) step.parts) ∙ append_assoc halves.front (step.first ∷ step.more) parts.back in
     let given : GivenBehind before c bytes outs = record { first = halves.front; node = halves.mid; run = halves.first; answers = step.first; after = step.after; gives = step.gives; more = step.more ++ parts.back; parts = whole } in
     let written : all_outputs parts.front ≡ all_outputs halves.front ++ (step.first ++ all_outputs step.more) =
-    ap all_outputs (halves.parts ∙ ap (λ (l : List (List Output)). halves.front ++ l) step.parts) ∙ outputs_parts halves.front step.first step.more in
+    ap all_outputs (halves.parts ∙ ap (λ (l : List (List OutputLine)). halves.front ++ l) step.parts) ∙ outputs_parts halves.front step.first step.more in
     let each = λ (x : Offer) (taken : IsIn x step.gives.served.offers).
     (let own : x.connection ≡ c = serve_own c step.gives.stream step.gives.link.publishers step.gives.commands step.gives.served step.gives.serves x taken in
     let held : IsIn x step.after.queued = subst (IsIn x) (sym (ap (λ (n : NodeState). n.queued) step.gives.is)) (in_right x halves.mid.queued step.gives.served.offers taken) in

@@ -6,10 +6,12 @@ use Rattle.std.proofs.lemmas.Bool.{cases_lt}
 use Rattle.std.proofs.lemmas.List.{append-nil, get_or_past}
 use Rattle.std.proofs.lemmas.List.Elements.{All-head, All-tail, All-append, All-nil, All-from_recursion}
 use Rattle.hex.specs.Hex.{encode_lower, encode_with, lower_digits}
-use Rattle.replay_node.specs.Words.{line_feed, space, Lacks}
-use Rattle.replay_node.specs.Outputs.{Output, committed, sent, output_line, output_bytes}
+use Rattle.script_text.specs.Words.{line_feed, space, Lacks}
+use Rattle.script_text.specs.declared.output.OutputLine.{OutputLine}
+use Rattle.script_text.specs.declared.output.OutputLine.TheVariants.{Committed, Sent}
+use Rattle.script_text.specs.Outputs.{output_words, output_bytes}
 use Rattle.replay_node.specs.Replays.{outputs_bytes, Begins}
-use Rattle.replay_node.proofs.Splits.{decimal_lacks}
+use Rattle.script_text.proofs.Splits.{decimal_lacks}
 
 abbrev pub OtherByte : ℕ → Type 0
 OtherByte b = b ≢ line_feed
@@ -35,40 +37,28 @@ hex_lacks (b ∷ bytes) =
 pub number_lacks : (n : ℕ) → n < 2 ^ 64 → Lacks line_feed (decimal n)
 number_lacks n fits = decimal_lacks line_feed n fits (λ digit. absurd (omega arith))
 
--- the text of an output line, without its line feed
-output_text : List ℕ → ℕ → List ℕ → List ℕ
-output_text word number bytes = word ++ (space ∷ (decimal number ++ (space ∷ encode_lower bytes)))
-
-text_is : (word : List ℕ) (number : ℕ) (bytes : List ℕ) → output_line word number bytes ≡ output_text word number bytes ++ line_feed ∷ []
-unfolding output_text
-text_is word number bytes =
-    let inner : decimal number ++ (space ∷ (encode_lower bytes ++ line_feed ∷ [])) ≡ (decimal number ++ (space ∷ encode_lower bytes)) ++ line_feed ∷ [] =
-    sym (append_assoc (decimal number) (space ∷ encode_lower bytes) (line_feed ∷ [])) in
-    ap (λ (l : List ℕ). word ++ (space ∷ l)) inner ∙ sym (append_assoc word (space ∷ (decimal number ++ (space ∷ encode_lower bytes))) (line_feed ∷ []))
-
-text_lacks : (word : List ℕ) (number : ℕ) (bytes : List ℕ) → Lacks line_feed word → number < 2 ^ 64 → Lacks line_feed (output_text word number bytes)
-unfolding output_text
-text_lacks word number bytes plain fits =
+-- the words of an output line: a letter, a number, and bytes as hexadecimal text
+words_lack : (letter number : ℕ) (bytes : List ℕ) → letter ≢ line_feed → number < 2 ^ 64 → Lacks line_feed (letter ∷ space ∷ (decimal number ++ space ∷ encode_lower bytes))
+words_lack letter number bytes other fits =
     let no_space : space ≢ line_feed = λ e. absurd (omega arith) in
     let behind = lacks_more space (encode_lower bytes) no_space (hex_lacks bytes) in
     let numbered = All-append OtherByte (decimal number) (space ∷ encode_lower bytes) (number_lacks number fits) behind in
-    All-append OtherByte word (space ∷ (decimal number ++ (space ∷ encode_lower bytes))) plain (lacks_more space (decimal number ++ (space ∷ encode_lower bytes)) no_space numbered)
+    lacks_more letter (space ∷ (decimal number ++ space ∷ encode_lower bytes)) other (lacks_more space (decimal number ++ space ∷ encode_lower bytes) no_space numbered)
 
--- the number of an output fits 64 bits
-abbrev pub HasNumber : Output → Type 0
-HasNumber (committed stream chunk) = stream < 2 ^ 64
-HasNumber (sent connection frame) = connection < 2 ^ 64
+-- a chunk or a frame, whose number fits 64 bits
+abbrev pub HasNumber : OutputLine → Type 0
+HasNumber (Committed stream chunk) = stream < 2 ^ 64
+HasNumber (Sent connection frame) = connection < 2 ^ 64
+HasNumber other = ⊥
 
 -- a line: a text without a line feed, and one
 abbrev pub IsOneLine : List ℕ → Type 0
 IsOneLine line = (text : List ℕ) × (line ≡ text ++ line_feed ∷ []) × Lacks line_feed text
 
-plain_byte : (b : ℕ) → b ≢ line_feed → Lacks line_feed (b ∷ [])
-plain_byte b other = All-from_recursion OtherByte (b ∷ []) (other, tt)
-
-pub output_is_line : (o : Output) → HasNumber o → IsOneLine (output_bytes o)
-output_is_line (committed stream chunk) fits = (output_text (107 ∷ []) stream chunk, text_is (107 ∷ []) stream chunk, text_lacks (107 ∷ []) stream chunk (plain_byte 107 (λ e. absurd (omega arith))) fits)
-output_is_line (sent connection frame) fits = (output_text (62 ∷ []) connection frame, text_is (62 ∷ []) connection frame, text_lacks (62 ∷ []) connection frame (plain_byte 62 (λ e. absurd (omega arith))) fits)
+pub output_is_line : (o : OutputLine) → HasNumber o → IsOneLine (output_bytes o)
+output_is_line (Committed stream chunk) fits = (output_words (Committed stream chunk), refl, words_lack 107 stream chunk (λ e. absurd (omega arith)) fits)
+output_is_line (Sent connection frame) fits = (output_words (Sent connection frame), refl, words_lack 62 connection frame (λ e. absurd (omega arith)) fits)
+output_is_line other fits = absurd fits
 
 head_same : (c d : ℕ) (x y : List ℕ) → c ∷ x ≡ d ∷ y → c ≡ d
 head_same c d x y e = ap (λ (l : List ℕ). get_or l 0 0) e
@@ -102,9 +92,9 @@ split_two (x ∷ front) more (y ∷ a) b e =
     ]
 
 -- The first bytes of several output lines are some whole ones and a rest without a line feed.
-pub record IsCut (outputs : List Output) (front : List ℕ) : Type 0 where
-  pub whole : List Output
-  pub more : List Output
+pub record IsCut (outputs : List OutputLine) (front : List ℕ) : Type 0 where
+  pub whole : List OutputLine
+  pub more : List OutputLine
   pub part : List ℕ
   pub parts : outputs ≡ whole ++ more
   pub is : front ≡ outputs_bytes whole ++ part
@@ -113,21 +103,21 @@ pub record IsCut (outputs : List Output) (front : List ℕ) : Type 0 where
 cut_none : (front more : List ℕ) → [] ≡ front ++ more → Lacks line_feed front
 cut_none front more e k d lt = let len = ap length e in absurd (omega (arith, len, length-append front more))
 
-cut_first : (o : Output) (os : List Output) (front : List ℕ) → Lacks line_feed front ⊎ (front ≡ output_bytes o) → IsCut (o ∷ os) front
+cut_first : (o : OutputLine) (os : List OutputLine) (front : List ℕ) → Lacks line_feed front ⊎ (front ≡ output_bytes o) → IsCut (o ∷ os) front
 cut_first o os front (inl none) = record { whole = []; more = o ∷ os; part = front; parts = refl; is = refl; lacks = none }
 cut_first o os front (inr all) = record { whole = o ∷ []; more = os; part = []; parts = refl; is = all ∙ sym (append-nil (outputs_bytes (o ∷ [])) ∙ append-nil (output_bytes o)); lacks = All-nil OtherByte }
 
-cut_more : (o : Output) (os : List Output) (front rest : List ℕ) → front ≡ output_bytes o ++ rest → IsCut os rest → IsCut (o ∷ os) front
+cut_more : (o : OutputLine) (os : List OutputLine) (front rest : List ℕ) → front ≡ output_bytes o ++ rest → IsCut os rest → IsCut (o ∷ os) front
 cut_more o os front rest e cut = record {
   whole = o ∷ cut.whole;
   more = cut.more;
   part = cut.part;
-  parts = ap (λ (l : List Output). o ∷ l) cut.parts;
+  parts = ap (λ (l : List OutputLine). o ∷ l) cut.parts;
   is = e ∙ ap (λ (l : List ℕ). output_bytes o ++ l) cut.is ∙ sym (append_assoc (output_bytes o) (outputs_bytes cut.whole) cut.part);
   lacks = cut.lacks;
 }
 
-pub cut_outputs : (outputs : List Output) (front : List ℕ) → AllByRecursion HasNumber outputs → Begins front (outputs_bytes outputs) → IsCut outputs front
+pub cut_outputs : (outputs : List OutputLine) (front : List ℕ) → AllByRecursion HasNumber outputs → Begins front (outputs_bytes outputs) → IsCut outputs front
 cut_outputs [] front fits begins = record { whole = []; more = []; part = front; parts = refl; is = refl; lacks = cut_none front begins.0 begins.1 }
 cut_outputs (o ∷ os) front fits begins =
     elim (split_two front begins.0 (output_bytes o) (outputs_bytes os) (sym begins.1)) [

@@ -14,7 +14,7 @@ use Rattle.command_data.specs.Commands.{data_table}
 use Rattle.replay_node.specs.declared.session.Offer.{Offer}
 use Rattle.replay_node.specs.declared.session.Served.{Served}
 use Rattle.replay_node.specs.Sessions.{is_declared, is_unnamed, is_stream, declare_code, declared_ids, declared, refusals, published, credited, serve_all}
-use Rattle.replay_node.specs.Outputs.{Output}
+use Rattle.script_text.specs.declared.output.OutputLine.{OutputLine}
 use Rattle.replay_node.specs.NodeState.{send}
 use Rattle.replay_node.specs.Machine.{PublisherState, ConnectionState, Machine, find, put}
 use Rattle.replay_node.specs.MachineSteps.{read, Handles, HandleStep, name_of, Declares, Answers, AnswerStep, Event, wrote, handled, MachineStep, MachineRun}
@@ -273,7 +273,7 @@ pub record ServeRun (p : Place) (commands : List DataCommand) (offers : List Off
   pub placed : AllByRecursion (IsLocal p.number served.publishers) (offers ++ served.offers)
   pub own : AllByRecursion (λ (o : Offer). o.connection ≡ p.number) served.offers
 
-pub writes_more : (event : Event) (events : List Event) (xs ys : List Output) → Writes (event ∷ []) xs → Writes events ys → Writes (event ∷ events) (xs ++ ys)
+pub writes_more : (event : Event) (events : List Event) (xs ys : List OutputLine) → Writes (event ∷ []) xs → Writes events ys → Writes (event ∷ events) (xs ++ ys)
 writes_more (wrote output) events [] ys p q = absurd p
 writes_more (wrote output) events (x ∷ []) ys p q = (p.0, q)
 writes_more (wrote output) events (x ∷ z ∷ xs) ys p q = absurd p.1

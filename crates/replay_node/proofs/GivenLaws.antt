@@ -10,7 +10,7 @@ use Rattle.replay_node.specs.declared.session.Link.{Link}
 use Rattle.replay_node.specs.declared.session.Served.{Served}
 use Rattle.replay_node.specs.Commands.{frame_max}
 use Rattle.replay_node.specs.Sessions.{joined, behind, and_then, serve, serve_all}
-use Rattle.replay_node.specs.Outputs.{Output}
+use Rattle.script_text.specs.declared.output.OutputLine.{OutputLine}
 use Rattle.replay_node.specs.NodeState.{NodeState, find_link, put_link, send}
 use Rattle.replay_node.specs.Laws.{GivesJoin, GivesOnce}
 use Rattle.replay_node.proofs.Serving.{behind_twice}
@@ -108,7 +108,7 @@ gives_join old mid new c first second outputs more p q =
       reads = subst (λ (l : List ℕ). CommandsOf frame_max l (p.commands ++ q.commands) q.rest) (append_assoc p.link.rest first second) all;
       served = joined p.served q.served;
       serves = serves;
-      written = ap (λ (l : List Output). l ++ more) p.written ∙ ap (λ (l : List Output). map (send c) p.served.answers ++ l) q.written ∙ sym (map-append (send c) p.served.answers q.served.answers);
+      written = ap (λ (l : List OutputLine). l ++ more) p.written ∙ ap (λ (l : List OutputLine). map (send c) p.served.answers ++ l) q.written ∙ sym (map-append (send c) p.served.answers q.served.answers);
       is = q.is ∙ ap (λ (n : NodeState). after_give n c q.rest q.served) p.is ∙ same;
     }
 

@@ -8,13 +8,14 @@ use Rattle.std.proofs.lemmas.Grind.{flat_map-append}
 use Rattle.chunk_format.specs.declared.chunk.Chunk.{Chunk}
 use Rattle.command_data.specs.declared.command.DataCommand.{DataCommand}
 use Rattle.replay_node.specs.declared.session.Offer.{Offer}
-use Rattle.replay_node.specs.declared.script.ScriptLine.{ScriptLine}
-use Rattle.replay_node.specs.declared.script.ScriptLine.TheVariants.{Create, Prepare, Give, Poll, Settle}
+use Rattle.script_text.specs.declared.script.ScriptLine.{ScriptLine}
+use Rattle.script_text.specs.declared.script.ScriptLine.TheVariants.{Create, Prepare, Give, Poll, Settle}
 use Rattle.replay_node.specs.declared.player.ReplayEnd.{ReplayEnd}
 use Rattle.replay_node.specs.declared.player.ReplayEnd.TheVariants.{Done, Bad, ReadFault, WriteFault, Memory, TooLong}
-use Rattle.replay_node.specs.Words.{line_feed, Lacks}
-use Rattle.replay_node.specs.Script.{words_of, line_bytes, IsScriptLine}
-use Rattle.replay_node.specs.Outputs.{Output, output_bytes}
+use Rattle.script_text.specs.Words.{line_feed, Lacks}
+use Rattle.script_text.specs.Script.{words_of, line_bytes, IsScriptLine}
+use Rattle.script_text.specs.declared.output.OutputLine.{OutputLine}
+use Rattle.script_text.specs.Outputs.{output_bytes}
 use Rattle.replay_node.specs.NodeState.{NodeState, new_node, LineGives, commit_of, confirm_of, send, queued_chunks, offers_of, opening}
 use Rattle.replay_node.specs.Replays.{Answers, lines_bytes, outputs_bytes, all_bytes, Begins, Replays, Ends, IsWithin, IsNextGiven, end_line, bad_line}
 use Rattle.replay_node.specs.Machine.{Machine, empty_machine}
@@ -35,31 +36,31 @@ run_front a c (x ∷ xs) ys p = let rest = run_front p.0 c xs ys p.2 in (rest.0,
 
 -- ---- the events of lines
 
-no_reads : (events : List Event) (outputs : List Output) → Writes events outputs → flat_map read_bytes events ≡ []
+no_reads : (events : List Event) (outputs : List OutputLine) → Writes events outputs → flat_map read_bytes events ≡ []
 no_reads [] outputs w = refl
 no_reads (wrote o ∷ events) [] w = absurd w
 no_reads (wrote o ∷ events) (p ∷ outputs) w = no_reads events outputs w.1
 no_reads (handled c ∷ events) outputs w = no_reads events outputs w
 no_reads (read line ∷ events) outputs w = absurd w
 
-all_wrote : (events : List Event) (outputs : List Output) → Writes events outputs → flat_map wrote_bytes events ≡ outputs_bytes outputs
+all_wrote : (events : List Event) (outputs : List OutputLine) → Writes events outputs → flat_map wrote_bytes events ≡ outputs_bytes outputs
 all_wrote [] [] w = refl
 all_wrote [] (p ∷ outputs) w = absurd w
 all_wrote (wrote o ∷ events) [] w = absurd w
 all_wrote (wrote o ∷ events) (p ∷ outputs) w =
-    ap (λ (x : Output). output_bytes x ++ flat_map wrote_bytes events) w.0 ∙ ap (λ (l : List ℕ). output_bytes p ++ l) (all_wrote events outputs w.1)
+    ap (λ (x : OutputLine). output_bytes x ++ flat_map wrote_bytes events) w.0 ∙ ap (λ (l : List ℕ). output_bytes p ++ l) (all_wrote events outputs w.1)
 all_wrote (handled c ∷ events) outputs w = all_wrote events outputs w
 all_wrote (read line ∷ events) outputs w = absurd w
 
-line_reads : (line : ScriptLine) (outputs : List Output) (events : List Event) → LineEvents line outputs events → flat_map read_bytes events ≡ line_bytes line
+line_reads : (line : ScriptLine) (outputs : List OutputLine) (events : List Event) → LineEvents line outputs events → flat_map read_bytes events ≡ line_bytes line
 line_reads line outputs events e =
     ap (flat_map read_bytes) e.is ∙ ap (λ (l : List ℕ). line_bytes line ++ l) (no_reads e.behind outputs e.writes) ∙ append-nil (line_bytes line)
 
-line_writes : (line : ScriptLine) (outputs : List Output) (events : List Event) → LineEvents line outputs events → flat_map wrote_bytes events ≡ outputs_bytes outputs
+line_writes : (line : ScriptLine) (outputs : List OutputLine) (events : List Event) → LineEvents line outputs events → flat_map wrote_bytes events ≡ outputs_bytes outputs
 line_writes line outputs events e = ap (flat_map wrote_bytes) e.is ∙ all_wrote e.behind outputs e.writes
 
 -- the events that write the first of some outputs
-split_writes : (events : List Event) (whole more : List Output) → Writes events (whole ++ more) → (front : List Event) × (back : List Event) × (events ≡ front ++ back) × Writes front whole
+split_writes : (events : List Event) (whole more : List OutputLine) → Writes events (whole ++ more) → (front : List Event) × (back : List Event) × (events ≡ front ++ back) × Writes front whole
 split_writes events [] more w = ([], events, refl, tt)
 split_writes [] (p ∷ whole) more w = absurd w
 split_writes (wrote o ∷ events) (p ∷ whole) more w =
@@ -71,7 +72,7 @@ split_writes (handled c ∷ events) (p ∷ whole) more w =
 split_writes (read line ∷ events) (p ∷ whole) more w = absurd w
 
 -- a run of answered lines, and the node shows its end
-record Ran (machine : Machine) (lines : List ScriptLine) (outs : List (List Output)) (node : NodeState) : Type 0 where
+record Ran (machine : Machine) (lines : List ScriptLine) (outs : List (List OutputLine)) (node : NodeState) : Type 0 where
   events : List Event
   end : Machine
   run : MachineRun machine events end
@@ -79,10 +80,10 @@ record Ran (machine : Machine) (lines : List ScriptLine) (outs : List (List Outp
   reads : flat_map read_bytes events ≡ lines_bytes lines
   writes : flat_map wrote_bytes events ≡ all_bytes outs
 
-one_line_runs : (old new : NodeState) (line : ScriptLine) (outputs : List Output) (machine : Machine) → Shows old machine → LineGives old line outputs new → GivesRun machine line outputs new
+one_line_runs : (old new : NodeState) (line : ScriptLine) (outputs : List OutputLine) (machine : Machine) → Shows old machine → LineGives old line outputs new → GivesRun machine line outputs new
 one_line_runs old new line outputs machine shows gives = subst (λ (m : Machine). GivesRun m line outputs new) (sym shows.is) (line_runs old new line outputs shows.confirmed shows.shown gives)
 
-runs_all : (old new : NodeState) (lines : List ScriptLine) (outs : List (List Output)) (machine : Machine) → Shows old machine → Answers old lines outs new → Ran machine lines outs new
+runs_all : (old new : NodeState) (lines : List ScriptLine) (outs : List (List OutputLine)) (machine : Machine) → Shows old machine → Answers old lines outs new → Ran machine lines outs new
 runs_all old new [] [] machine shows answers = record { events = []; end = machine; run = refl; shows = subst (λ (n : NodeState). Shows n machine) (sym answers) shows; reads = refl; writes = refl }
 runs_all old new [] (o ∷ outs) machine shows answers = absurd answers
 runs_all old new (line ∷ lines) [] machine shows answers = absurd answers
@@ -116,12 +117,13 @@ confirms_fit : (connection : ℕ) (offers : List Offer) → connection < 2 ^ 64 
 confirms_fit connection [] fits = tt
 confirms_fit connection (o ∷ offers) fits = confirms_by connection o (o.connection == connection) (offers_of connection offers) refl fits (confirms_fit connection offers fits)
 
-outputs_fit : (old new : NodeState) (line : ScriptLine) (outputs : List Output) → IsScriptLine line → LineGives old line outputs new → AllByRecursion HasNumber outputs
+outputs_fit : (old new : NodeState) (line : ScriptLine) (outputs : List OutputLine) → IsScriptLine line → LineGives old line outputs new → AllByRecursion HasNumber outputs
 outputs_fit old new (Create name) outputs valid gives = subst (AllByRecursion HasNumber) (sym gives.1) (commits_fit (opening ∷ []))
 outputs_fit old new (Prepare connection name) outputs valid gives = subst (AllByRecursion HasNumber) (sym gives.5) tt
 outputs_fit old new (Give connection bytes) outputs valid gives = subst (AllByRecursion HasNumber) (sym gives.written) (sends_fit connection gives.served.answers valid.words.0)
 outputs_fit old new (Poll connection) outputs valid gives = subst (AllByRecursion HasNumber) (sym gives.1) (confirms_fit connection old.unconfirmed valid.words)
 outputs_fit old new (Settle stream) outputs valid gives = subst (AllByRecursion HasNumber) (sym gives.3) (commits_fit (queued_chunks old))
+outputs_fit old new other outputs valid gives = absurd gives
 
 -- each line has a byte
 lines_count : (lines : List ScriptLine) → length lines ≤ length (lines_bytes lines)
@@ -153,7 +155,7 @@ bad_tail n tail (inl none) = inl none
 bad_tail n tail (inr all) = inr (inr (n, all))
 
 -- the transcript of answered lines with a tail
-plain : (node : NodeState) (lines : List ScriptLine) (outs : List (List Output)) (taken rest given tail : List ℕ) → Answers new_node lines outs node → taken ≡ lines_bytes lines ++ rest → given ≡ all_bytes outs → IsTail tail
+plain : (node : NodeState) (lines : List ScriptLine) (outs : List (List OutputLine)) (taken rest given tail : List ℕ) → Answers new_node lines outs node → taken ≡ lines_bytes lines ++ rest → given ≡ all_bytes outs → IsTail tail
     → Transcript taken (given ++ tail)
 plain node lines outs taken rest given tail answers reads writes is_tail =
     let ran = runs_all new_node node lines outs empty_machine new_shows answers in
@@ -169,7 +171,7 @@ plain node lines outs taken rest given tail answers reads writes is_tail =
     }
 
 -- the same, with the first lines that the next line gave
-cut_short : (node : NodeState) (lines : List ScriptLine) (outs : List (List Output)) (taken rest given tail next : List ℕ) → Answers new_node lines outs node → taken ≡ lines_bytes lines ++ rest → given ≡ all_bytes outs
+cut_short : (node : NodeState) (lines : List ScriptLine) (outs : List (List OutputLine)) (taken rest given tail next : List ℕ) → Answers new_node lines outs node → taken ≡ lines_bytes lines ++ rest → given ≡ all_bytes outs
     → IsNextGiven node rest next → Begins tail next → Transcript taken (given ++ tail)
 cut_short node lines outs taken rest given tail next answers reads writes n begins =
     let ran = runs_all new_node node lines outs empty_machine new_shows answers in
@@ -197,7 +199,7 @@ cut_short node lines outs taken rest given tail next answers reads writes n begi
       writes = ap (λ (l : List ℕ). given ++ l) cut.is ∙ sym (append_assoc given (outputs_bytes cut.whole) cut.part) ∙ ap (λ (l : List ℕ). l ++ cut.part) (sym wrote_all);
     }
 
-at_end : (end : ReplayEnd) (left : Option (List ℕ)) (node : NodeState) (lines : List ScriptLine) (outs : List (List Output)) (taken rest given tail : List ℕ) → Answers new_node lines outs node → taken ≡ lines_bytes lines ++ rest
+at_end : (end : ReplayEnd) (left : Option (List ℕ)) (node : NodeState) (lines : List ScriptLine) (outs : List (List OutputLine)) (taken rest given tail : List ℕ) → Answers new_node lines outs node → taken ≡ lines_bytes lines ++ rest
     → given ≡ all_bytes outs → Ends end left taken node (length lines) rest tail → IsWithin end (length taken) → Transcript taken (given ++ tail)
 at_end Done left node lines outs taken rest given tail answers reads writes ends limit = plain node lines outs taken rest given tail answers reads writes (inr (inl ends.2))
 at_end Bad left node lines outs taken rest given tail answers reads writes ends limit = plain node lines outs taken rest given tail answers reads writes (inr (inr (length lines + 1, ends.1)))

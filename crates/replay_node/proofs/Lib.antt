@@ -1,13 +1,10 @@
 pub mod Closing
-pub mod Decimals
 pub mod Goodness
-pub mod HexText
 pub mod Laying
 pub mod Pieces
 pub mod Playing
-pub mod Readings
+pub mod Reading
 pub mod Scripts
-pub mod Splits
 pub mod Cutting
 pub mod Serving
 pub mod Links

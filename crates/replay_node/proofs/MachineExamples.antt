@@ -20,7 +20,7 @@ use Rattle.command_data.specs.declared.command.DataCommand.TheVariants.{DeclareP
 use Rattle.command_data.specs.Commands.{data_table, DataSpells}
 use Rattle.command_data.proofs.DataLaws.{data_lawful}
 use Rattle.frame_commands.specs.Given.{CommandsOf}
-use Rattle.replay_node.specs.declared.script.ScriptLine.TheVariants.{Create, Prepare, Poll, Settle}
+use Rattle.script_text.specs.declared.script.ScriptLine.TheVariants.{Create, Prepare, Poll, Settle}
 use Rattle.replay_node.specs.Commands.{frame_max}
 use Rattle.replay_node.specs.NodeState.{end_of_list, opening, user_chunk}
 use Rattle.replay_node.specs.Machine.{StreamState, PublisherState, ConnectionState, Machine, empty_machine, find, put, Counted, last_epoch}

@@ -13,7 +13,7 @@ use Rattle.command_data.specs.declared.command.DataCommand.{DataCommand}
 use Rattle.command_data.specs.Commands.{data_table}
 use Rattle.frame_commands.specs.Given.{CommandsOf}
 use Rattle.replay_node.specs.declared.session.Served.{Served}
-use Rattle.replay_node.specs.declared.script.ScriptLine.TheVariants.{Give}
+use Rattle.script_text.specs.declared.script.ScriptLine.TheVariants.{Give}
 use Rattle.replay_node.specs.Commands.{frame_max}
 use Rattle.replay_node.specs.Sessions.{IsOffer, serve_all}
 use Rattle.replay_node.specs.Commits.{end_behind}

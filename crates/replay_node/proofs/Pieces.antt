@@ -8,8 +8,8 @@ use Rattle.outside_io.specs.declared.sink.Gave.TheVariants as gave
 use Rattle.outside_io.proofs.KnownLaws.{added_none, added_more}
 use Rattle.replay_node.specs.declared.player.ReplayEnd.{ReplayEnd}
 use Rattle.replay_node.specs.declared.player.ReplayEnd.TheVariants.{Done, Bad, ReadFault, WriteFault, Memory, TooLong}
-use Rattle.replay_node.specs.Words.{line_feed, Lacks, SplitsAt}
-use Rattle.replay_node.specs.Script.{line_bytes, longest_line}
+use Rattle.script_text.specs.Words.{line_feed, Lacks, SplitsAt}
+use Rattle.script_text.specs.Script.{line_bytes, longest_line}
 use Rattle.replay_node.specs.NodeState.{NodeState}
 use Rattle.replay_node.specs.Replays.{IsOpen, IsComplete, IsBadNext, IsNextGiven, Plays, outputs_bytes}
 use Rattle.replay_node.specs.Plays.{Cuts, AnswersOne, SoFar, StopsAt, PiecePlays, IsLineEnd}

@@ -6,17 +6,19 @@ use Rattle.std.proofs.lemmas.Grind.{flat_map-append}
 use Rattle.outside_io.specs.Known.{after_known}
 use Rattle.outside_io.specs.declared.sink.Gave.TheVariants as gave
 use Rattle.outside_io.proofs.KnownLaws.{added_more}
-use Rattle.replay_node.specs.declared.script.ScriptLine.{ScriptLine}
-use Rattle.replay_node.specs.Words.{line_feed, Lacks}
-use Rattle.replay_node.specs.Script.{words_of, line_bytes, IsScriptLine, Spells}
-use Rattle.replay_node.specs.Outputs.{Output, output_bytes, output_lines}
+use Rattle.script_text.specs.declared.script.ScriptLine.{ScriptLine}
+use Rattle.script_text.specs.Words.{line_feed, Lacks}
+use Rattle.script_text.specs.Script.{words_of, line_bytes, IsScriptLine, Spells}
+use Rattle.script_text.specs.declared.output.OutputLine.{OutputLine}
+use Rattle.script_text.specs.Outputs.{output_bytes}
+use Rattle.replay_node.specs.Outputs.{output_lines}
 use Rattle.replay_node.specs.NodeState.{NodeState, LineGives, IsBad}
 use Rattle.replay_node.specs.Replays.{Answers, lines_bytes, outputs_bytes, all_bytes, Plays}
 use Rattle.replay_node.specs.Plays.{joined, Cuts}
-use Rattle.replay_node.proofs.Splits.{lacks_it_not}
+use Rattle.script_text.proofs.Splits.{lacks_it_not}
 
 -- the lines of outputs are their bytes
-pub joined_lines : (outputs : List Output) → joined (output_lines outputs) ≡ outputs_bytes outputs
+pub joined_lines : (outputs : List OutputLine) → joined (output_lines outputs) ≡ outputs_bytes outputs
 joined_lines [] = refl
 joined_lines (o ∷ os) = ap (λ (l : List ℕ). output_bytes o ++ l) (joined_lines os)
 
@@ -34,7 +36,7 @@ cut_lines w0 w1 w2 lines i k line lt is before cut =
       added_more w0 w1 w2 (joined (take i lines)) (take k line) before cut,
     )
 
-pub Answers-append : (a b c : NodeState) (ls ms : List ScriptLine) (os ps : List (List Output)) → Answers a ls os b → Answers b ms ps c → Answers a (ls ++ ms) (os ++ ps) c
+pub Answers-append : (a b c : NodeState) (ls ms : List ScriptLine) (os ps : List (List OutputLine)) → Answers a ls os b → Answers b ms ps c → Answers a (ls ++ ms) (os ++ ps) c
 Answers-append a b c [] ms [] ps p q = subst (λ (n : NodeState). Answers n ms ps c) p q
 Answers-append a b c (l ∷ ls) ms (o ∷ os) ps p q = (p.0, p.1, Answers-append p.0 b c ls ms os ps p.2 q)
 Answers-append a b c [] ms (o ∷ os) ps p q = absurd p
@@ -45,7 +47,7 @@ pub plays_none : (node : NodeState) (stream : List ℕ) → Plays node node stre
 plays_none node stream = record { lines = []; outputs = []; run = refl; valid = All-nil IsScriptLine; read = refl; written = refl; count = refl }
 
 -- one line
-pub plays_line : (old new : NodeState) (bytes : List ℕ) (line : ScriptLine) (outputs : List Output) → Spells bytes line → LineGives old line outputs new → Plays old new bytes [] (outputs_bytes outputs) 1
+pub plays_line : (old new : NodeState) (bytes : List ℕ) (line : ScriptLine) (outputs : List OutputLine) → Spells bytes line → LineGives old line outputs new → Plays old new bytes [] (outputs_bytes outputs) 1
 plays_line old new bytes line outputs spells gives = record {
   lines = line ∷ [];
   outputs = outputs ∷ [];

@@ -20,15 +20,15 @@ use Rattle.command_data.specs.Commands.{data_table}
 use Rattle.replay_node.specs.declared.session.Offer.{Offer}
 use Rattle.replay_node.specs.declared.session.Link.{Link}
 use Rattle.replay_node.specs.declared.session.Served.{Served}
-use Rattle.replay_node.specs.declared.script.ScriptLine.{ScriptLine}
-use Rattle.replay_node.specs.declared.script.ScriptLine.TheVariants.{Create, Prepare, Give, Poll, Settle}
-use Rattle.replay_node.specs.declared.script.LineFault.{LineFault}
-use Rattle.replay_node.specs.Script.{Spells}
+use Rattle.script_text.specs.declared.script.ScriptLine.{ScriptLine}
+use Rattle.script_text.specs.declared.script.ScriptLine.TheVariants.{Create, Prepare, Give, Poll, Settle}
+use Rattle.script_text.specs.declared.script.LineFault.{LineFault}
+use Rattle.script_text.specs.Script.{Spells}
 use Rattle.frame_commands.specs.Given.{CommandsOf}
 use Rattle.replay_node.specs.Commands.{frame_max}
 use Rattle.replay_node.specs.Sessions.{IsOffer, is_declared, serve_all}
 use Rattle.replay_node.specs.Commits.{IsMessage}
-use Rattle.replay_node.specs.Outputs.{Output}
+use Rattle.script_text.specs.declared.output.OutputLine.{OutputLine}
 use Rattle.replay_node.specs.NodeState.{NodeState, new_node, opening, user_chunk, chunk_max, first_pieces, pieces_of, entries, ids, offer_pieces, chunks_from, queued_chunks, end_of_list, find_link, put_link, prepared_link, offers_of, offers_of_others, commit_of, send, confirm_of, LineGives, LineAnswered, AnswersLine}
 use Rattle.replay_node.specs.Machine.{PublisherState, ConnectionState, Machine, empty_machine, find, put, is_same_entry, untagged_of, untagged, last_epoch}
 use Rattle.replay_node.specs.MachineSteps.{new_stream, GiveStep, CommitStep, ConfirmStep, Event, wrote, read, MachineRun}
@@ -394,7 +394,7 @@ count_append p xs ys = sum_by-append (λ (x : Entry). cond (p x) 1 0) xs ys
 offered_append : (a b : List Offer) → offered (a ++ b) ≡ offered a ++ offered b
 offered_append a b = flat_map-append (λ (o : Offer). entries o.items) a b
 
-writes_all : (outputs : List Output) → Writes (map wrote outputs) outputs
+writes_all : (outputs : List OutputLine) → Writes (map wrote outputs) outputs
 writes_all [] = tt
 writes_all (o ∷ outputs) = (refl, writes_all outputs)
 
@@ -564,7 +564,7 @@ poll_run (Some name) ls ch q u confirmed link there shown =
     let c : ℕ = link.number in
     let offers = all_parts IsOffer u q shown.offers in
     let placed = all_parts (IsPlaced ls) u q shown.placed in
-    let outputs : List Output = map confirm_of (offers_of c u) in
+    let outputs : List OutputLine = map confirm_of (offers_of c u) in
     let run = polls name ls ch link u q there shown.apart (found_apart c link ls there shown.publishers) (local_of c ls link u there placed.0) offers.0 confirmed [] shown.rows in
     let old : Machine = with_stream name ch confirmed (map (connection_of (u ++ q)) ls) in (
       read (Poll c) ∷ map wrote outputs,
@@ -591,9 +591,9 @@ poll_run (Some name) ls ch q u confirmed link there shown =
 -- ---- lines
 
 -- the same run, of equal outputs to an equal node
-moved : (machine : Machine) (line : ScriptLine) (outputs others : List Output) (new other : NodeState) → others ≡ outputs → other ≡ new → GivesRun machine line outputs new → GivesRun machine line others other
+moved : (machine : Machine) (line : ScriptLine) (outputs others : List OutputLine) (new other : NodeState) → others ≡ outputs → other ≡ new → GivesRun machine line outputs new → GivesRun machine line others other
 moved machine line outputs others new other same is run =
-    subst (λ (o : List Output). GivesRun machine line o other) (sym same) (subst (λ (n : NodeState). GivesRun machine line outputs n) (sym is) run)
+    subst (λ (o : List OutputLine). GivesRun machine line o other) (sym same) (subst (λ (n : NodeState). GivesRun machine line outputs n) (sym is) run)
 
 create_at : (s : Option (List ℕ)) (ls : List Link) (ch : List Chunk) (q u : List Offer) (confirmed : List Entry) (name : List ℕ) → s ≡ None → IsShown (node_of_parts s ls ch q u) confirmed
     → GivesRun (machine_of (node_of_parts s ls ch q u) confirmed) (Create name) (commit_of opening ∷ []) (node_of_parts (Some name) ls (opening ∷ []) q u)
@@ -605,7 +605,7 @@ poll_there None some = absurd cc
 poll_there (Some link) some = (link, refl)
 
 -- each line is a run
-pub line_runs : (node new : NodeState) (line : ScriptLine) (outputs : List Output) (confirmed : List Entry) → IsShown node confirmed → LineGives node line outputs new → GivesRun (machine_of node confirmed) line outputs new
+pub line_runs : (node new : NodeState) (line : ScriptLine) (outputs : List OutputLine) (confirmed : List Entry) → IsShown node confirmed → LineGives node line outputs new → GivesRun (machine_of node confirmed) line outputs new
 line_runs node new (Create name) outputs confirmed shown gives =
     moved _ (Create name) _ outputs _ new gives.1 gives.2 (create_at node.stream node.links node.chunks node.queued node.unconfirmed confirmed name gives.0 shown)
 line_runs node new (Prepare connection name) outputs confirmed shown gives =
@@ -631,6 +631,7 @@ line_runs node new (Settle stream) outputs confirmed shown gives =
     let here : GivesRun (machine_of node confirmed) (Settle stream) (map commit_of (queued_chunks node)) _ =
     subst (λ (n : ℕ). GivesRun (machine_of node confirmed) (Settle n) (map commit_of (queued_chunks node)) (node_of_parts node.stream node.links (node.chunks ++ queued_chunks node) [] (node.unconfirmed ++ node.queued))) (sym gives.0) run in
     moved _ (Settle stream) _ outputs _ new gives.3 gives.4 here
+line_runs node new other outputs confirmed shown gives = absurd gives
 
 -- whatever machine the node showed
 pub answered_runs : (old new : NodeState) (bytes : List ℕ) (lines : List (List ℕ)) → LineAnswered old bytes lines new → LineRuns old bytes lines new

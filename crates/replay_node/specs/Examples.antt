@@ -6,12 +6,12 @@ use Rattle.chunk_format.specs.declared.entry.Entry.TheVariants.{Simple}
 use Rattle.chunk_format.specs.declared.chunk.Chunk.{Chunk}
 use Rattle.chunk_format.specs.Chunks.{chunk_bytes}
 use Rattle.command_data.specs.declared.item.Tagged.{Tagged}
-use Rattle.replay_node.specs.declared.script.ScriptLine.TheVariants.{Create, Prepare, Give, Poll, Settle}
+use Rattle.script_text.specs.declared.script.ScriptLine.TheVariants.{Create, Prepare, Give, Poll, Settle}
 use Rattle.command_fields.specs.Tables.{body_of}
 use Rattle.command_data.specs.declared.command.DataCommand.{DataCommand}
 use Rattle.command_data.specs.declared.command.DataCommand.TheVariants.{DeclarePublisher, Publish, PublishConfirm, PublishError, Plain}
 use Rattle.command_data.specs.Commands.{data_table}
-use Rattle.replay_node.specs.Outputs.{committed}
+use Rattle.script_text.specs.declared.output.OutputLine.TheVariants.{Committed}
 use Rattle.replay_node.specs.NodeState.{opening, user_chunk, send}
 use Rattle.replay_node.specs.Machine.{Machine, empty_machine}
 use Rattle.replay_node.specs.MachineSteps.{Event, read, wrote, handled, MachineRun}
@@ -38,7 +38,7 @@ message_a = record { id = 1; entry = entry_a }
 
 -- a chunk is committed to stream 1
 abbrev pub commits : Chunk → Event
-commits chunk = wrote (committed 1 (chunk_bytes chunk))
+commits chunk = wrote (Committed 1 (chunk_bytes chunk))
 
 -- a command is given on connection 1
 abbrev pub gives : DataCommand → Event

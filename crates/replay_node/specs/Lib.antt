@@ -1,5 +1,3 @@
-pub mod Words
-pub mod Script
 pub mod Commands
 pub mod Rows
 pub mod Sessions

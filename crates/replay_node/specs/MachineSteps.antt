@@ -8,11 +8,12 @@ use Rattle.command_data.specs.declared.command.DataCommand.{DataCommand}
 use Rattle.command_data.specs.declared.command.DataCommand.TheVariants.{DeclarePublisher, Publish, PublishError, Credit, CreditFault, Plain}
 use Rattle.command_data.specs.Commands.{DataSpells}
 use Rattle.frame_commands.specs.Given.{CommandsOf}
-use Rattle.replay_node.specs.declared.script.ScriptLine.{ScriptLine}
-use Rattle.replay_node.specs.declared.script.ScriptLine.TheVariants.{Create, Prepare, Give, Poll, Settle}
+use Rattle.script_text.specs.declared.script.ScriptLine.{ScriptLine}
+use Rattle.script_text.specs.declared.script.ScriptLine.TheVariants.{Create, Prepare, Give, Poll, Settle}
 use Rattle.replay_node.specs.Commands.{frame_max, SpellsConfirm}
 use Rattle.replay_node.specs.Sessions.{is_declared, refusals}
-use Rattle.replay_node.specs.Outputs.{Output, committed, sent}
+use Rattle.script_text.specs.declared.output.OutputLine.{OutputLine}
+use Rattle.script_text.specs.declared.output.OutputLine.TheVariants.{Committed, Sent}
 use Rattle.replay_node.specs.NodeState.{end_of_list}
 use Rattle.replay_node.specs.Machine.{StreamState, PublisherState, ConnectionState, Machine, find, put, Counted, last_epoch}
 
@@ -50,6 +51,7 @@ ReadStep old (Give connection piece) new = GiveStep old connection piece new
 -- to settle and to poll are no steps: what is committed and sent then is in the lines that are written
 ReadStep old (Poll connection) new = new ≡ old
 ReadStep old (Settle stream) new = new ≡ old
+ReadStep old other new = ⊥
 
 -- Commit: the chunk begins at the end of the stream's list, and its epoch is not below that of the last.
 pub record CommitStep (old : Machine) (stream : ℕ) (bytes : List ℕ) (new : Machine) : Type 0 where
@@ -153,14 +155,15 @@ pub record AnswerStep (old : Machine) (connection : ℕ) (bytes : List ℕ) (new
   pub is : new ≡ record old { connections = put connection (record state { inbox = later; publishers = publishers }) old.connections }
 
 -- what a written line does: a chunk is committed, or a frame that is sent confirms or answers
-abbrev pub WriteStep : Machine → Output → Machine → Type 0
-WriteStep old (committed stream chunk) new = CommitStep old stream chunk new
-WriteStep old (sent connection frame) new = ConfirmStep old connection frame new ⊎ AnswerStep old connection frame new
+abbrev pub WriteStep : Machine → OutputLine → Machine → Type 0
+WriteStep old (Committed stream chunk) new = CommitStep old stream chunk new
+WriteStep old (Sent connection frame) new = ConfirmStep old connection frame new ⊎ AnswerStep old connection frame new
+WriteStep old other new = ⊥
 
 -- a line that was read, one that was written, or a command of a connection that was handled
 pub data Event : Type 0 where
   read : ScriptLine → Event
-  wrote : Output → Event
+  wrote : OutputLine → Event
   handled : ℕ → Event
 
 abbrev pub MachineStep : Machine → Event → Machine → Type 0

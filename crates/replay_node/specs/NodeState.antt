@@ -16,14 +16,16 @@ use Rattle.frame_commands.specs.Given.{CommandsOf}
 use Rattle.replay_node.specs.declared.session.Offer.{Offer}
 use Rattle.replay_node.specs.declared.session.Link.{Link}
 use Rattle.replay_node.specs.declared.session.Served.{Served}
-use Rattle.replay_node.specs.declared.script.ScriptLine.{ScriptLine}
-use Rattle.replay_node.specs.declared.script.ScriptLine.TheVariants.{Create, Prepare, Give, Poll, Settle}
-use Rattle.replay_node.specs.declared.script.LineFault.{LineFault}
-use Rattle.replay_node.specs.declared.script.LineFault.TheVariants.{Bad, Memory}
+use Rattle.script_text.specs.declared.script.ScriptLine.{ScriptLine}
+use Rattle.script_text.specs.declared.script.ScriptLine.TheVariants.{Create, Prepare, Give, Poll, Settle}
+use Rattle.script_text.specs.declared.script.LineFault.{LineFault}
+use Rattle.script_text.specs.declared.script.LineFault.TheVariants.{Bad, Memory}
 use Rattle.replay_node.specs.Commands.{frame_max}
 use Rattle.replay_node.specs.Sessions.{serve_all}
-use Rattle.replay_node.specs.Outputs.{Output, committed, sent, output_lines}
-use Rattle.replay_node.specs.Script.{Spells}
+use Rattle.script_text.specs.declared.output.OutputLine.{OutputLine}
+use Rattle.script_text.specs.declared.output.OutputLine.TheVariants.{Committed, Sent}
+use Rattle.replay_node.specs.Outputs.{output_lines}
+use Rattle.script_text.specs.Script.{Spells}
 
 -- What a node has: the name of stream 1, the connections in the order of their making, the committed list, the frames
 -- that were taken and are not committed, and those that are but have no confirm.
@@ -108,26 +110,26 @@ offers_of_others connection offers = filter (λ (offer : Offer). not (offer.conn
 
 -- ---- what is written
 
-abbrev pub commit_of : Chunk → Output
-commit_of chunk = committed 1 (chunk_bytes chunk)
+abbrev pub commit_of : Chunk → OutputLine
+commit_of chunk = Committed 1 (chunk_bytes chunk)
 
 -- a command in a frame
-abbrev pub send : ℕ → DataCommand → Output
-send connection command = sent connection (frame (body_of data_table command))
+abbrev pub send : ℕ → DataCommand → OutputLine
+send connection command = Sent connection (frame (body_of data_table command))
 
 -- the ids of items, in order
 abbrev pub ids : List Tagged → List ℕ
 ids items = map (λ (item : Tagged). item.id) items
 
 -- the confirm of one Publish frame
-abbrev pub confirm_of : Offer → Output
+abbrev pub confirm_of : Offer → OutputLine
 confirm_of offer = send offer.connection (PublishConfirm offer.publisher (ids offer.items))
 
 -- ---- what each line gives
 
 -- Bytes come on a connection: what was held back and they are frames of commands, and a rest that is held back then.
 -- Each command is served, and what it answers is written.
-pub record GivesBytes (old : NodeState) (connection : ℕ) (bytes : List ℕ) (outputs : List Output) (new : NodeState) : Type 0 where
+pub record GivesBytes (old : NodeState) (connection : ℕ) (bytes : List ℕ) (outputs : List OutputLine) (new : NodeState) : Type 0 where
   pub stream : List ℕ
   pub is_live : old.stream ≡ Some stream
   pub link : Link
@@ -144,7 +146,7 @@ pub record GivesBytes (old : NodeState) (connection : ℕ) (bytes : List ℕ) (o
   }
 
 -- What each line gives, and the node after it. A line to which nothing is given here is Bad.
-abbrev pub LineGives : NodeState → ScriptLine → List Output → NodeState → Type 0
+abbrev pub LineGives : NodeState → ScriptLine → List OutputLine → NodeState → Type 0
 -- a stream is made, and opens with a snapshot
 LineGives old (Create name) outputs new =
     (old.stream ≡ None)
@@ -177,10 +179,12 @@ LineGives old (Poll connection) outputs new =
     IsSome (find_link connection old.links)
     × (outputs ≡ map confirm_of (offers_of connection old.unconfirmed))
     × (new ≡ record old { unconfirmed = offers_of_others connection old.unconfirmed })
+-- this node serves no other line of the language
+LineGives old other outputs new = ⊥
 
 -- the line's own rules refuse it
 abbrev pub Refuses : NodeState → ScriptLine → Type 0
-Refuses node line = (outputs : List Output) (new : NodeState) → LineGives node line outputs new → ⊥
+Refuses node line = (outputs : List OutputLine) (new : NodeState) → LineGives node line outputs new → ⊥
 
 -- no line of the language, or one that is refused
 abbrev pub IsBad : NodeState → List ℕ → Type 0
@@ -190,12 +194,12 @@ IsBad node bytes = (line : ScriptLine) → Spells bytes line → Refuses node li
 pub record LineAnswered (old : NodeState) (bytes : List ℕ) (lines : List (List ℕ)) (new : NodeState) : Type 0 where
   pub line : ScriptLine
   pub spells : Spells bytes line
-  pub outputs : List Output
+  pub outputs : List OutputLine
   pub gives : LineGives old line outputs new
   pub written : lines ≡ output_lines outputs
 
 -- how a line that was read is answered
 abbrev pub AnswersLine : NodeState → ScriptLine → Result (List (List ℕ)) LineFault → NodeState → Type 0
-AnswersLine old line (Ok lines) new = (outputs : List Output) × LineGives old line outputs new × (lines ≡ output_lines outputs)
+AnswersLine old line (Ok lines) new = (outputs : List OutputLine) × LineGives old line outputs new × (lines ≡ output_lines outputs)
 AnswersLine old line (Err Bad) new = Refuses old line × (new ≡ old)
 AnswersLine old line (Err Memory) new = new ≡ old

@@ -4,12 +4,12 @@ use Rattle.std.specs.List.{flat_map}
 use Rattle.outside_io.specs.Known.{before_known, after_known, IsEmptyKnown}
 use Rattle.outside_io.specs.declared.sink.Gave.{Gave}
 use Rattle.outside_io.specs.declared.sink.Gave.TheVariants as gave
-use Rattle.replay_node.specs.declared.script.ScriptLine.{ScriptLine}
+use Rattle.script_text.specs.declared.script.ScriptLine.{ScriptLine}
 use Rattle.replay_node.specs.declared.player.ReplayEnd.{ReplayEnd}
 use Rattle.replay_node.specs.declared.player.ReplayEnd.TheVariants.{Done, Bad, ReadFault, WriteFault, Memory, TooLong}
-use Rattle.replay_node.specs.Words.{line_feed, Lacks}
-use Rattle.replay_node.specs.Script.{Spells}
-use Rattle.replay_node.specs.Outputs.{Output}
+use Rattle.script_text.specs.Words.{line_feed, Lacks}
+use Rattle.script_text.specs.Script.{Spells}
+use Rattle.script_text.specs.declared.output.OutputLine.{OutputLine}
 use Rattle.replay_node.specs.NodeState.{NodeState, new_node, LineGives, IsBad}
 use Rattle.replay_node.specs.Replays.{most_bytes, Begins, outputs_bytes, Plays, IsOpen, IsBadNext, IsBadLast, IsNextGiven, IsWithin, end_line, bad_line}
 
@@ -25,9 +25,9 @@ Cuts gave.Failed whole old new = (front : List ℕ) × Begins front whole × (ne
 -- what came of one line
 abbrev pub AnswersOne : ReplayEnd → NodeState → List ℕ → NodeState → Option (List ℕ) → Option (List ℕ) → Type 0
 AnswersOne Done old bytes new written_old written_new =
-    (line : ScriptLine) × Spells bytes line × (outputs : List Output) × LineGives old line outputs new × (written_new ≡ after_known written_old (outputs_bytes outputs))
+    (line : ScriptLine) × Spells bytes line × (outputs : List OutputLine) × LineGives old line outputs new × (written_new ≡ after_known written_old (outputs_bytes outputs))
 AnswersOne WriteFault old bytes new written_old written_new =
-    (line : ScriptLine) × Spells bytes line × (outputs : List Output) × LineGives old line outputs new
+    (line : ScriptLine) × Spells bytes line × (outputs : List OutputLine) × LineGives old line outputs new
     × (front : List ℕ) × Begins front (outputs_bytes outputs) × (written_new ≡ after_known written_old front)
 AnswersOne Bad old bytes new written_old written_new = IsBad old bytes × (new ≡ old) × (written_new ≡ written_old)
 AnswersOne Memory old bytes new written_old written_new = (new ≡ old) × (written_new ≡ written_old)

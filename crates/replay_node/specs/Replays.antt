@@ -1,14 +1,15 @@
 -- A whole script, answered line by line: what was read, what was written, and how it ended.
-use Rattle.std.specs.Prelude.{◌≡◌, ℕ, ◌+◌, ◌≤◌, ◌<◌, ◌⊎◌, List, [], ◌∷◌, ◌++◌, length, All, codes, Option}
+use Rattle.std.specs.Prelude.{◌≡◌, ℕ, ◌+◌, ◌≤◌, ◌<◌, ◌⊎◌, List, [], ◌∷◌, ◌++◌, length, All, Option}
 use Rattle.std.specs.List.{flat_map}
-use Rattle.std.specs.Fmt.{decimal}
 use Rattle.outside_io.specs.Known.{before_known, after_known, IsEmptyKnown}
-use Rattle.replay_node.specs.declared.script.ScriptLine.{ScriptLine}
+use Rattle.script_text.specs.declared.script.ScriptLine.{ScriptLine}
 use Rattle.replay_node.specs.declared.player.ReplayEnd.{ReplayEnd}
 use Rattle.replay_node.specs.declared.player.ReplayEnd.TheVariants.{Done, Bad, ReadFault, WriteFault, Memory, TooLong}
-use Rattle.replay_node.specs.Words.{line_feed, Lacks}
-use Rattle.replay_node.specs.Script.{line_bytes, longest_line, IsScriptLine}
-use Rattle.replay_node.specs.Outputs.{Output, output_bytes}
+use Rattle.script_text.specs.Words.{line_feed, Lacks}
+use Rattle.script_text.specs.Script.{line_bytes, longest_line, IsScriptLine}
+use Rattle.script_text.specs.declared.output.OutputLine.{OutputLine}
+use Rattle.script_text.specs.declared.output.OutputLine.TheVariants as lines
+use Rattle.script_text.specs.Outputs.{output_bytes}
 use Rattle.replay_node.specs.NodeState.{NodeState, new_node, LineGives, IsBad}
 
 -- the status of each end
@@ -25,7 +26,7 @@ abbrev pub most_bytes : ℕ
 most_bytes = 1073741824
 
 -- lines answered one after the other, each with its outputs
-abbrev pub Answers : NodeState → List ScriptLine → List (List Output) → NodeState → Type 0
+abbrev pub Answers : NodeState → List ScriptLine → List (List OutputLine) → NodeState → Type 0
 Answers old [] [] new = new ≡ old
 Answers old (line ∷ lines) (outputs ∷ more) new = (mid : NodeState) × LineGives old line outputs mid × Answers mid lines more new
 Answers old [] (outputs ∷ more) new = ⊥
@@ -35,10 +36,10 @@ Answers old (line ∷ lines) [] new = ⊥
 abbrev pub lines_bytes : List ScriptLine → List ℕ
 lines_bytes lines = flat_map line_bytes lines
 
-abbrev pub outputs_bytes : List Output → List ℕ
+abbrev pub outputs_bytes : List OutputLine → List ℕ
 outputs_bytes outputs = flat_map output_bytes outputs
 
-abbrev pub all_bytes : List (List Output) → List ℕ
+abbrev pub all_bytes : List (List OutputLine) → List ℕ
 all_bytes outputs = flat_map outputs_bytes outputs
 
 -- the first bytes of these are those
@@ -71,10 +72,10 @@ pub record IsBadLast (left : Option (List ℕ)) (node : NodeState) (rest : List 
 
 -- the last line that is written: `end`, or `bad` and the number of the Bad line
 abbrev pub end_line : List ℕ
-end_line = codes "end" ++ line_feed ∷ []
+end_line = output_bytes lines.End
 
 abbrev pub bad_line : ℕ → List ℕ
-bad_line number = codes "bad " ++ (decimal number ++ line_feed ∷ [])
+bad_line number = output_bytes (lines.Bad number)
 
 -- the next line of the rest is a line, and these bytes are what it gives
 pub record IsNextGiven (node : NodeState) (rest given : List ℕ) : Type 0 where
@@ -82,7 +83,7 @@ pub record IsNextGiven (node : NodeState) (rest given : List ℕ) : Type 0 where
   pub more : List ℕ
   pub parts : rest ≡ line_bytes line ++ more
   pub valid : IsScriptLine line
-  pub outputs : List Output
+  pub outputs : List OutputLine
   pub after : NodeState
   pub gives : LineGives node line outputs after
   pub is : given ≡ outputs_bytes outputs
@@ -121,7 +122,7 @@ IsWithin Memory size = size ≤ most_bytes
 -- From one node to another, the stream is whole lines that were answered and a rest, and what was written is what they gave.
 pub record Plays (old new : NodeState) (stream rest given : List ℕ) (answered : ℕ) : Type 0 where
   pub lines : List ScriptLine
-  pub outputs : List (List Output)
+  pub outputs : List (List OutputLine)
   pub run : Answers old lines outputs new
   pub valid : All IsScriptLine lines
   pub read : stream ≡ lines_bytes lines ++ rest

@@ -6,11 +6,12 @@ use Rattle.chunk_format.specs.declared.chunk.Chunk.{Chunk}
 use Rattle.command_data.specs.declared.item.Tagged.{Tagged}
 use Rattle.replay_node.specs.declared.session.Offer.{Offer}
 use Rattle.replay_node.specs.declared.session.Link.{Link}
-use Rattle.replay_node.specs.declared.script.ScriptLine.{ScriptLine}
+use Rattle.script_text.specs.declared.script.ScriptLine.{ScriptLine}
 use Rattle.replay_node.specs.Sessions.{IsOffer, is_declared}
-use Rattle.replay_node.specs.Outputs.{Output, output_lines}
+use Rattle.script_text.specs.declared.output.OutputLine.{OutputLine}
+use Rattle.replay_node.specs.Outputs.{output_lines}
 use Rattle.replay_node.specs.NodeState.{NodeState, entries, find_link}
-use Rattle.replay_node.specs.Script.{Spells}
+use Rattle.script_text.specs.Script.{Spells}
 use Rattle.replay_node.specs.Machine.{StreamState, PublisherState, ConnectionState, Machine, untagged, last_epoch}
 use Rattle.replay_node.specs.MachineSteps.{Event, MachineRun}
 use Rattle.replay_node.specs.Transcripts.{LineEvents}
@@ -87,11 +88,11 @@ abbrev pub RunsTo : Machine → List Event → NodeState → Type 0
 RunsTo machine events node = (new : Machine) × MachineRun machine events new × Shows node new
 
 -- a line and what it gave are a run, and the node shows the machine after it
-abbrev pub GivesRun : Machine → ScriptLine → List Output → NodeState → Type 0
+abbrev pub GivesRun : Machine → ScriptLine → List OutputLine → NodeState → Type 0
 GivesRun machine line outputs node = (events : List Event) × LineEvents line outputs events × RunsTo machine events node
 
 -- Whatever machine the node showed, the line that was read and the lines that it gave are steps of it, to a machine that the node shows then.
 abbrev pub LineRuns : NodeState → List ℕ → List (List ℕ) → NodeState → Type 0
 LineRuns old bytes lines new =
     (machine : Machine) → Shows old machine
-    → (line : ScriptLine) × Spells bytes line × (outputs : List Output) × (lines ≡ output_lines outputs) × GivesRun machine line outputs new
+    → (line : ScriptLine) × Spells bytes line × (outputs : List OutputLine) × (lines ≡ output_lines outputs) × GivesRun machine line outputs new

@@ -2,10 +2,11 @@
 use Rattle.std.specs.Prelude.{◌≡◌, ℕ, ◌⊎◌, List, [], ◌∷◌, ◌++◌, Option}
 use Rattle.std.specs.List.{flat_map}
 use Rattle.outside_io.specs.Known.{before_known, after_known}
-use Rattle.replay_node.specs.declared.script.ScriptLine.{ScriptLine}
-use Rattle.replay_node.specs.Words.{line_feed, Lacks}
-use Rattle.replay_node.specs.Script.{line_bytes}
-use Rattle.replay_node.specs.Outputs.{Output, output_bytes}
+use Rattle.script_text.specs.declared.script.ScriptLine.{ScriptLine}
+use Rattle.script_text.specs.Words.{line_feed, Lacks}
+use Rattle.script_text.specs.Script.{line_bytes}
+use Rattle.script_text.specs.declared.output.OutputLine.{OutputLine}
+use Rattle.script_text.specs.Outputs.{output_bytes}
 use Rattle.replay_node.specs.Replays.{end_line, bad_line}
 use Rattle.replay_node.specs.Machine.{Machine, empty_machine}
 use Rattle.replay_node.specs.MachineSteps.{Event, read, wrote, handled, MachineRun}
@@ -47,7 +48,7 @@ pub record Transcribed (left_old left_new written_old written_new : Option (List
   pub transcript : Transcript taken given
 
 -- these outputs are written, in order, and between them commands may be handled
-abbrev pub Writes : List Event → List Output → Type 0
+abbrev pub Writes : List Event → List OutputLine → Type 0
 Writes [] [] = Unit {0}
 Writes [] (output ∷ outputs) = ⊥
 Writes (wrote output ∷ events) [] = ⊥
@@ -56,7 +57,7 @@ Writes (handled connection ∷ events) outputs = Writes events outputs
 Writes (read line ∷ events) outputs = ⊥
 
 -- the events of one line
-pub record LineEvents (line : ScriptLine) (outputs : List Output) (events : List Event) : Type 0 where
+pub record LineEvents (line : ScriptLine) (outputs : List OutputLine) (events : List Event) : Type 0 where
   pub behind : List Event
   pub is : events ≡ read line ∷ behind
   pub writes : Writes behind outputs

@@ -6,13 +6,10 @@ mod laws;
 mod node;
 mod output;
 mod player;
-mod script;
 mod session;
-mod word;
 
 pub use examples::list_machine_on_literals;
 pub use laws::{given_bytes_join, pieces_are_cut, rows_are_written_out};
 pub use node::Node;
 pub use player::{ReplayEnd, replay};
-pub use script::{LineFault, ScriptLine, read_line};
 pub use session::{Link, Offer, Served};

@@ -6,17 +6,16 @@ ghost use Rattle.replay_node.specs.NodeState.{new_node, LineAnswered, IsBad, Ans
 ghost use Rattle.replay_node.specs.NodeFields.{IsPlace};
 ghost use Rattle.replay_node.specs.Machine.{empty_machine};
 ghost use Rattle.replay_node.specs.Shown.{Shows, LineRuns};
-ghost use Rattle.replay_node.specs.declared.script.ScriptLine.TheVariants.{Create, Prepare, Give, Poll, Settle};
+ghost use Rattle.script_text.specs.declared.script.ScriptLine.TheVariants.{Create, Prepare, Give, Poll, Settle};
 
 use crate::output::{
     Commits, STREAM, command_lines, commit_lines, confirm_lines, lay_offers, opening_commits,
 };
-use crate::script::{LineFault, ScriptLine, read_line};
 use crate::session::{Link, Offer, serve_all};
-use crate::word::is_same;
 use chunk_format::Chunk;
 use frame_commands::read_commands;
 use frame_wire::{Limits, Octets, Row};
+use script_text::{LineFault, ScriptLine, read_line};
 use std::alloc::{AllocError, Global};
 use std::marker::Model;
 
@@ -65,6 +64,13 @@ fn place_of(links: &[Link], number: u64) -> Option<usize>
         }
     }
     None
+}
+
+/// Whether two names are the same.
+fn is_same(one: &[u8], other: &[u8]) -> bool
+    ensures { IsTrue result ↔ (one.now ≡ other.now) }
+{
+    one == other
 }
 
 /// Takes the offers of a connection out.
@@ -244,7 +250,7 @@ impl Node {
         Ok(lines)
     }
 
-    /// Answers a line that was read.
+    /// Answers a line that was read. Lines that this node doesn't serve are Bad.
     fn answer(&mut self, line: ScriptLine) -> Result<Row<Octets>, LineFault>
         ensures { AnswersLine self.old line result self.new }
     {
@@ -254,11 +260,13 @@ impl Node {
             ScriptLine::Give { connection, bytes } => self.give(connection, bytes.as_slice()),
             ScriptLine::Settle { stream } => self.settle(stream),
             ScriptLine::Poll { connection } => self.poll(connection),
+            _ => Err(LineFault::Bad),
         }
     }
 
     /// Answers one line of a script, its line feed among its bytes, with the lines that it gives,
-    /// each with its line feed. After an error the node is as it was.
+    /// each with its line feed. It serves `n`, `b`, `c`, `p` and `s`; every other line is Bad.
+    /// After an error the node is as it was.
     pub fn line(&mut self, line: &[u8]) -> Result<Row<Octets>, LineFault>
         ensures ok { IfOk result (λ lines. LineAnswered self.old line.now lines self.new) }
         ensures steps { IfOk result (λ lines. LineRuns self.old line.now lines self.new) }

@@ -7,7 +7,8 @@ ghost use Rattle.chunk_format.specs.Chunks.{IsChunk, IsEntry, entries_bytes};
 ghost use Rattle.command_fields.specs.Tables.{FitsIn, body_of};
 ghost use Rattle.command_data.specs.Commands.{data_table};
 ghost use Rattle.replay_node.specs.Sessions.{IsOffer};
-ghost use Rattle.replay_node.specs.Outputs.{output_line, output_bytes, output_lines};
+ghost use Rattle.script_text.specs.Outputs.{output_bytes};
+ghost use Rattle.replay_node.specs.Outputs.{output_lines};
 ghost use Rattle.replay_node.specs.NodeState.{opening, user_chunk, chunks_from, entries, ids, pieces_of, offer_pieces, offers_of, commit_of, confirm_of, send};
 ghost use Rattle.replay_node.specs.Commits.{LaysOut, IsPiece};
 ghost use Rattle.command_data.specs.declared.command.DataCommand.TheVariants.{PublishConfirm};
@@ -16,6 +17,7 @@ use crate::session::Offer;
 use chunk_format::{Chunk, ChunkKind, Entry, encode_chunk};
 use command_data::{DataCommand, Tagged, encode_data};
 use frame_wire::{Octets, Row, put_u32};
+use script_text::{OutputLine, write_output};
 use std::alloc::{AllocError, Global};
 
 /// The number of the one stream.
@@ -31,22 +33,17 @@ pub(crate) struct Commits {
     pub end: u64,
 }
 
-/// A word, a number, and bytes as hexadecimal text.
-fn write_line(alloc: Global, word: &str, number: u64, bytes: &[u8]) -> Result<Octets, AllocError>
-    ensures { IfOk result (λ line. line ≡ output_line word.now number bytes.now) }
-{
-    let text = hex::encode(alloc, bytes)?;
-    let line = format!(in alloc; "{word} {number} {text}\n")?;
-    Octets::copy(alloc, line.as_bytes())
-}
-
 /// The line that commits a chunk to the stream.
 fn commit_line(alloc: Global, chunk: &Chunk) -> Result<Octets, AllocError>
     requires { IsChunk chunk.now }
     ensures { IfOk result (λ line. line ≡ output_bytes (commit_of chunk.now)) }
 {
     let bytes = encode_chunk(alloc, chunk)?;
-    write_line(alloc, "k", STREAM, bytes.as_slice())
+    let line = OutputLine::Committed {
+        stream: STREAM,
+        chunk: Octets::copy(alloc, bytes.as_slice())?,
+    };
+    write_output(alloc, &line)
 }
 
 /// A command in a frame.
@@ -66,8 +63,11 @@ fn command_line(alloc: Global, connection: u64, command: &DataCommand) -> Result
     requires { FitsIn data_table command.now }
     ensures { IfOk result (λ line. line ≡ output_bytes (send connection command.now)) }
 {
-    let bytes = frame_of(alloc, command)?;
-    write_line(alloc, ">", connection, bytes.as_slice())
+    let line = OutputLine::Sent {
+        connection,
+        frame: frame_of(alloc, command)?,
+    };
+    write_output(alloc, &line)
 }
 
 /// The ids of messages, in order.

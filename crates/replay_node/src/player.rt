@@ -4,17 +4,16 @@ ghost use Rattle.std.specs.Prelude.{◌≡◌, ◌≢◌, ◌≤◌, ◌+◌, �
 ghost use Rattle.outside_io.specs.Causes.{HasCause, Rose};
 ghost use Rattle.outside_io.specs.Known.{after_known};
 ghost use Rattle.replay_node.specs.NodeState.{new_node};
-ghost use Rattle.replay_node.specs.Words.{line_feed};
+ghost use Rattle.script_text.specs.Words.{line_feed};
 ghost use Rattle.replay_node.specs.Plays.{joined, Cuts, AnswersOne, PiecePlays, IsLineEnd, ScriptPlays, Closes};
 ghost use Rattle.replay_node.specs.Replays.{IsOpen, bad_line, status_of, most_bytes};
 ghost use Rattle.replay_node.specs.Complete.{IsGoodScript, ReplaysAs};
 ghost use Rattle.replay_node.specs.Transcripts.{Transcribed};
 
 use crate::node::Node;
-use crate::script::{LONGEST_LINE, LineFault};
-use crate::word::find_byte;
 use frame_wire::{Limits, Octets};
 use outside_io::{Gave, Sink, Source, Took};
+use script_text::{LONGEST_LINE, LineFault, OutputLine, find_byte, write_output};
 use std::alloc::{AllocError, Global};
 
 /// The most bytes of a script.
@@ -169,9 +168,8 @@ fn bad_text(alloc: Global, lines: u64) -> Result<Octets, AllocError>
     requires { lines + 1 < 2 ^ 64 }
     ensures { IfOk result (λ line. line ≡ bad_line (lines + 1)) }
 {
-    let number = lines + 1;
-    let text = format!(in alloc; "bad {number}\n")?;
-    Octets::copy(alloc, text.as_bytes())
+    let line = OutputLine::Bad { number: lines + 1 };
+    write_output(alloc, &line)
 }
 
 /// Writes the last line, where there is one to write.

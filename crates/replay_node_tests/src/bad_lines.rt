@@ -6,7 +6,7 @@ use std::process::Abort;
 use std::test::Fail;
 
 /// Lines after `n s`, and the number of the bad one.
-const AFTER_THE_FIRST: [(&str, u64); 50] = [
+const AFTER_THE_FIRST: [(&str, u64); 62] = [
     // a second stream
     ("n s\n", 2),
     ("n other\n", 2),
@@ -68,6 +68,19 @@ const AFTER_THE_FIRST: [(&str, u64); 50] = [
     // another letter
     ("b 1 s\nz 1\n", 3),
     ("b 1 s\nP 1\n", 3),
+    // a line of the language that this node doesn't serve
+    ("b 1 s\na 2\n", 3),
+    ("b 1 s\nq 1\n", 3),
+    ("b 1 s\nt 0\n", 3),
+    ("b 1 s\ne 1\n", 3),
+    ("b 1 s\nd 1 1\n", 3),
+    ("b 1 s\nu 1 1\n", 3),
+    ("b 1 s\nw 1 1\n", 3),
+    ("b 1 s\nx 1 1 0 0\n", 3),
+    ("b 1 s\nr 1 1\n", 3),
+    ("b 1 s\nf 1 1 1\n", 3),
+    ("b 1 s\ni 1\n", 3),
+    ("b 1 s\nz 0 0\n", 3),
     // frames that no command spells: version, key
     (
         "b 1 s\nc 1 0000001600020002000000000100000000000000010000000161\n",

@@ -1,6 +1,7 @@
 use crate::values::OPENING;
 use frame_wire::Limits;
-use replay_node::{LineFault, Node};
+use replay_node::Node;
+use script_text::LineFault;
 use std::alloc::Global;
 use std::process::Abort;
 use std::test::Fail;

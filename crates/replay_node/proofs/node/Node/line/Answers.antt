@@ -1,4 +1,4 @@
-use Rattle.replay_node.proofs.Readings.{bad_answer}
+use Rattle.replay_node.proofs.Reading.{bad_answer}
 use Rattle.replay_node.proofs.Runs.{line_answered_runs}
 use Rattle.replay_node.proofs.node.Node.line.Goals as goal
 
