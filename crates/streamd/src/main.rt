@@ -1,9 +1,11 @@
 //! The stream server's program.
 #![tactic(auto)]
 
+mod files;
 mod run;
 mod words;
 
+use crate::files::NamedFile;
 use crate::run::{run, tell_usage};
 use frame_wire::{Octets, Row};
 use outside_io::{StdSink, StdSource};
@@ -26,6 +28,14 @@ fn words_after_name(alloc: Global, args: env::Args) -> Result<Row<Octets>, Alloc
     Ok(words)
 }
 
+/// A word, or the empty one where there is none at this place.
+fn word_at(words: &[Octets], place: usize) -> &[u8] {
+    match words.get(place) {
+        Some(word) => word.as_slice(),
+        None => b"",
+    }
+}
+
 fn main(rt: HostRuntime) -> ExitCode {
     let mut out = StdSink::new(rt.stdout());
     let Ok(args) = env::args(&rt) else {
@@ -35,5 +45,14 @@ fn main(rt: HostRuntime) -> ExitCode {
         return ExitCode::from(MEMORY);
     };
     let mut input = StdSource::new(rt.stdin());
-    ExitCode::from(run(rt.alloc(), words.as_slice(), &mut input, &mut out))
+    let mut segment = NamedFile::new(&rt, word_at(words.as_slice(), 1));
+    let mut index = NamedFile::new(&rt, word_at(words.as_slice(), 2));
+    ExitCode::from(run(
+        rt.alloc(),
+        words.as_slice(),
+        &mut input,
+        &mut segment,
+        &mut index,
+        &mut out,
+    ))
 }

@@ -10,6 +10,10 @@ use frame_wire::Octets;
 pub enum Words {
     /// To replay a script.
     Replay,
+    /// To look into a segment and its index, whose names follow.
+    Inspect,
+    /// To make the index of a segment anew, whose name follows.
+    Reindex,
     /// To be told which words there are.
     Usage,
 }
@@ -21,7 +25,7 @@ fn is_same(one: &[u8], other: &[u8]) -> bool
     one == other
 }
 
-/// What the words after the program's name ask for: `Replay` where they are the one word `replay`.
+/// What the words after the program's name ask for: `replay` alone, `inspect` and two names, or `reindex` and a name.
 pub fn read_words(words: &[Octets]) -> Words
     ensures { AskFor words.now result }
 {
@@ -29,6 +33,20 @@ pub fn read_words(words: &[Octets]) -> Words
         [word] => {
             if is_same(word.as_slice(), b"replay") {
                 Words::Replay
+            } else {
+                Words::Usage
+            }
+        }
+        [word, _segment] => {
+            if is_same(word.as_slice(), b"reindex") {
+                Words::Reindex
+            } else {
+                Words::Usage
+            }
+        }
+        [word, _segment, _index] => {
+            if is_same(word.as_slice(), b"inspect") {
+                Words::Inspect
             } else {
                 Words::Usage
             }
@@ -41,5 +59,5 @@ pub fn read_words(words: &[Octets]) -> Words
 pub fn usage_line() -> &'static [u8]
     ensures { result.now ≡ usage }
 {
-    b"usage: streamd replay | load N | inspect SEGMENT INDEX | serve\n"
+    b"usage: streamd replay [M] | load N | inspect SEGMENT INDEX | serve | reindex SEGMENT\n"
 }
