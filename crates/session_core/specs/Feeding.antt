@@ -1,0 +1,61 @@
+-- A session over the commands that its peer's bytes spell.
+use Rattle.std.specs.Prelude.{◌≡◌, ◌≢◌, ℕ, List, [], ◌∷◌, ◌++◌, All, Option, None, Some, option_to_list}
+use Rattle.frame_wire.specs.Frames.{stream_of, IsBody, IsPartial, IsTooLarge}
+use Rattle.command_fields.specs.declared.fault.DecodeFault.{DecodeFault}
+use Rattle.command_fields.specs.declared.response.ResponseCode.{ResponseCode}
+use Rattle.command_fields.specs.declared.response.ResponseCode.TheVariants as code
+use Rattle.command_all.specs.declared.command.Command.{Command}
+use Rattle.command_all.specs.declared.identity.Identity.{Identity}
+use Rattle.command_all.specs.Reading.{AreSpelled, BeginsUnspelt}
+use Rattle.hub_terms.specs.Meaning.{HubMeaning}
+use Rattle.hub_terms.specs.Programs.{Runs}
+use Rattle.session_tables.specs.Opening.{leaves, says, closed}
+use Rattle.session_tables.specs.declared.reply.Reply.{Reply}
+use Rattle.session_tables.specs.declared.tables.Tables.{Tables}
+use Rattle.session_core.specs.Commands.{command_row}
+
+-- a command that is read while the session stands
+pub record CommandStep {S : Type 0} (m : HubMeaning S) (who : Identity) (now : ℕ) (old : Tables) (command : Command) (said : List Reply) (new : Tables) (h0 h1 : S) : Type 0 where
+  pub stands : old.ended ≡ None
+  pub reply : Option Reply
+  pub run : Runs m (command_row who old now command) h0 (leaves reply new) h1
+  pub said_is : said ≡ option_to_list reply
+
+-- command after command
+abbrev pub CommandSteps : {S : Type 0} → HubMeaning S → Identity → ℕ → Tables → List Command → List Reply → Tables → S → S → Type 0
+CommandSteps m who now old [] said new h0 h1 = (said ≡ []) × (new ≡ old) × (h1 ≡ h0)
+CommandSteps {S} m who now old (command ∷ commands) said new h0 h1 = (first : List Reply) × (rest : List Reply) × (mid : Tables) × (h : S)
+    × (said ≡ first ++ rest) × CommandStep m who now old command first mid h0 h × CommandSteps m who now mid commands rest new h h1
+
+-- The commands of the front of bytes are answered one after another, until one ends the session.
+pub record Answered {S : Type 0} (m : HubMeaning S) (who : Identity) (now max : ℕ) (bytes : List ℕ) (old : Tables) (said : List Reply) (new : Tables) (rest : List ℕ) (h0 h1 : S) : Type 0 where
+  pub bodies : List (List ℕ)
+  pub commands : List Command
+  pub whole : bytes ≡ stream_of bodies rest
+  pub each : All (IsBody max) bodies
+  pub spelled : AreSpelled bodies commands
+  pub steps : CommandSteps m who now old commands said new h0 h1
+
+-- and then the server closes the connection
+pub record Closing {S : Type 0} (m : HubMeaning S) (who : Identity) (now max : ℕ) (bytes : List ℕ) (old : Tables) (response : ResponseCode) (said : List Reply) (new : Tables) (rest : List ℕ) (h0 h1 : S) : Type 0 where
+  pub before : List Reply
+  pub mid : Tables
+  pub answered : Answered m who now max bytes old before mid rest h0 h1
+  pub stands : mid.ended ≡ None
+  pub reply : Reply
+  pub closes : says new reply ≡ closed response mid
+  pub said_is : said ≡ before ++ reply ∷ []
+
+-- All whole frames are answered; or a command ended the session; or a frame that no command spells did; or a size above the
+-- greatest did.
+pub data Fed {S : Type 0} (m : HubMeaning S) (who : Identity) (now max : ℕ) (bytes : List ℕ) (old : Tables) (said : List Reply) (new : Tables) (rest : List ℕ) (h0 h1 : S) : Type 0 where
+  Partly : Answered m who now max bytes old said new rest h0 h1 → new.ended ≡ None → IsPartial max rest → Fed m who now max bytes old said new rest h0 h1
+  Ended : Answered m who now max bytes old said new rest h0 h1 → new.ended ≢ None → Fed m who now max bytes old said new rest h0 h1
+  Unspelt : (fault : DecodeFault) → Closing m who now max bytes old code.UnknownFrame said new rest h0 h1 → BeginsUnspelt max rest fault → Fed m who now max bytes old said new rest h0 h1
+  TooLarge : (size : ℕ) → Closing m who now max bytes old code.FrameTooLarge said new rest h0 h1 → IsTooLarge max rest size → Fed m who now max bytes old said new rest h0 h1
+
+-- replies behind those that were there
+pub record Adds {S : Type 0} (m : HubMeaning S) (who : Identity) (now max : ℕ) (bytes : List ℕ) (old : Tables) (out0 out1 : List Reply) (new : Tables) (rest : List ℕ) (h0 h1 : S) : Type 0 where
+  pub said : List Reply
+  pub wrote : out1 ≡ out0 ++ said
+  pub fed : Fed m who now max bytes old said new rest h0 h1
