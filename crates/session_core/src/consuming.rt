@@ -1,7 +1,7 @@
 //! The commands of subscriptions and groups. Each is its row, over any hub. After want of memory the session has ended, and
 //! the hub has only gone on.
 
-ghost use Rattle.std.specs.Prelude.{◌≡◌, ◌<◌, None, OnOk};
+ghost use Rattle.std.specs.Prelude.{◌≡◌, ◌<◌, None, IfOk, OnOk};
 ghost use Rattle.hub_terms.specs.Programs.{Runs};
 ghost use Rattle.session_tables.specs.Opening.{leaves, says, silent};
 ghost use Rattle.session_tables.specs.Subscribing.{slot, put_slot};
@@ -175,4 +175,18 @@ pub fn answer_update<H: Hub>(
         None => Ok(()),
         Some(id) => update_at(tables, hub, id, place),
     }
+}
+
+/// UpdateAnswer, which has no reply.
+pub fn take_update<H: Hub>(
+    tables: &mut Tables,
+    hub: &mut H,
+    corr: u32,
+    place: &Option<OffsetSpec>,
+) -> Result<Option<Reply>, AllocError>
+    ensures ok { IfOk result (λ reply. Runs H.meaning (update_row tables.old corr place.now) hub.old (leaves reply tables.new) hub.new) }
+    ensures later { H.meaning.seen.later hub.old hub.new }
+{
+    answer_update(tables, hub, corr, place)?;
+    Ok(None)
 }

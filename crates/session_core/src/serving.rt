@@ -1,0 +1,112 @@
+//! Each administrative command gets its answer at each stage of a connection, over any hub.
+
+ghost use Rattle.std.specs.Prelude.{◌≡◌, IfOk};
+ghost use Rattle.hub_terms.specs.Programs.{Runs};
+ghost use Rattle.session_tables.specs.Opening.{leaves};
+ghost use Rattle.session_core.specs.Commands.{admin_row, admin_at, admin_any};
+
+use crate::consuming::take_update;
+use crate::offsets::stream_stats;
+use crate::streams::{
+    create, create_super, delete, delete_super, exchange_versions, metadata, partitions, route,
+};
+use command_all::{AdminCommand, Identity, ResponseCode};
+use hub_terms::Hub;
+use session_tables::{Reply, Stage, Tables, close, open, part};
+use std::alloc::{AllocError, Global};
+
+/// Answers an administrative command on an open connection.
+pub fn serve_admin<H: Hub>(
+    alloc: Global,
+    tables: &mut Tables,
+    hub: &mut H,
+    command: &AdminCommand,
+) -> Result<Option<Reply>, AllocError>
+    ensures ok { IfOk result (λ reply. Runs H.meaning (admin_row tables.old command.now) hub.old (leaves reply tables.new) hub.new) }
+    ensures later { H.meaning.seen.later hub.old hub.new }
+{
+    match command {
+        AdminCommand::Create {
+            corr,
+            stream,
+            properties: _,
+        } => Ok(Some(create(tables, hub, *corr, stream)?)),
+        AdminCommand::Delete { corr, stream } => Ok(Some(delete(tables, hub, *corr, stream)?)),
+        AdminCommand::CreateSuper {
+            corr,
+            name,
+            partitions: parts,
+            keys,
+            properties: _,
+        } => Ok(Some(create_super(tables, hub, *corr, name, parts.as_slice(), keys.as_slice())?)),
+        AdminCommand::DeleteSuper { corr, name } => {
+            Ok(Some(delete_super(tables, hub, *corr, name)?))
+        }
+        AdminCommand::Metadata { corr, items } => Ok(Some(metadata(
+            alloc,
+            tables,
+            hub,
+            *corr,
+            items.as_slice(),
+        )?)),
+        AdminCommand::Route {
+            corr,
+            routing_key,
+            super_stream,
+        } => Ok(Some(route(alloc, tables, hub, *corr, routing_key, super_stream)?)),
+        AdminCommand::Partitions { corr, super_stream } => {
+            Ok(Some(partitions(alloc, tables, hub, *corr, super_stream)?))
+        }
+        AdminCommand::UpdateAnswer {
+            corr,
+            code: _,
+            content,
+        } => take_update(tables, hub, *corr, content),
+        AdminCommand::ExchangeVersions { corr, items } => {
+            Ok(Some(exchange_versions(tables, *corr, items.as_slice())))
+        }
+        AdminCommand::StreamStats { corr, stream } => {
+            Ok(Some(stream_stats(tables, hub, *corr, stream)?))
+        }
+        _ => Ok(Some(close(tables, ResponseCode::UnknownFrame))),
+    }
+}
+
+/// Answers an administrative command that isn't taken at every stage.
+fn take_admin<H: Hub>(
+    alloc: Global,
+    tables: &mut Tables,
+    hub: &mut H,
+    identity: &Identity,
+    command: &AdminCommand,
+) -> Result<Option<Reply>, AllocError>
+    ensures ok { IfOk result (λ reply. Runs H.meaning (admin_at identity.now tables.old tables.old.stage command.now) hub.old (leaves reply tables.new) hub.new) }
+    ensures later { H.meaning.seen.later hub.old hub.new }
+{
+    match tables.stage {
+        Stage::Open => serve_admin(alloc, tables, hub, command),
+        _ => Ok(open(tables, identity, command)),
+    }
+}
+
+/// Answers an administrative command. Heartbeat and Close are taken at every stage.
+pub fn take_any<H: Hub>(
+    alloc: Global,
+    tables: &mut Tables,
+    hub: &mut H,
+    identity: &Identity,
+    command: &AdminCommand,
+) -> Result<Option<Reply>, AllocError>
+    ensures ok { IfOk result (λ reply. Runs H.meaning (admin_any identity.now tables.old command.now) hub.old (leaves reply tables.new) hub.new) }
+    ensures later { H.meaning.seen.later hub.old hub.new }
+{
+    match command {
+        AdminCommand::Heartbeat => Ok(None),
+        AdminCommand::Close {
+            corr,
+            code: _,
+            reason: _,
+        } => Ok(Some(part(tables, *corr))),
+        _ => take_admin(alloc, tables, hub, identity, command),
+    }
+}
