@@ -9,8 +9,7 @@ use std::test::Fail;
 
 const FIRST: &str = "chunk 0 snapshot 1 1 0 1\nentry 0 1 0\n";
 
-const BOTH: &str =
-    "chunk 0 snapshot 1 1 0 1\nentry 0 1 0\nchunk 1 user 1 1 0 1\nentry 1 1 1\n";
+const BOTH: &str = "chunk 0 snapshot 1 1 0 1\nentry 0 1 0\nchunk 1 user 1 1 0 1\nentry 1 1 1\n";
 
 /// An inspection of these bytes ends with this status and writes this.
 fn tells<R: Abort>(
@@ -80,7 +79,14 @@ fn inspect_tells_chunks_and_entries(rt: HostRuntime) -> Result<(), Fail> {
     for (segment, index, status, text) in CASES {
         let segment = hex::decode(alloc, segment)?;
         let index = hex::decode(alloc, index)?;
-        tells(&rt, alloc, segment.as_slice(), index.as_slice(), status, text.as_bytes())?;
+        tells(
+            &rt,
+            alloc,
+            segment.as_slice(),
+            index.as_slice(),
+            status,
+            text.as_bytes(),
+        )?;
     }
     Ok(())
 }
@@ -127,7 +133,14 @@ fn each_byte_of_an_index_counts(rt: HostRuntime) -> Result<(), Fail> {
         let mut index = hex::decode(alloc, INDEX)?;
         change(&mut index, place);
         let count = usize::from(place >= 37);
-        matches_so_many(&rt, alloc, segment.as_slice(), index.as_slice(), false, count)?;
+        matches_so_many(
+            &rt,
+            alloc,
+            segment.as_slice(),
+            index.as_slice(),
+            false,
+            count,
+        )?;
     }
     Ok(())
 }

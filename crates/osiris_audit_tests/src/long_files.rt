@@ -100,7 +100,13 @@ fn an_inspection_takes_268435456_bytes_of_each_file(rt: HostRuntime) -> Result<(
 fn a_rebuilding_takes_268435456_bytes(rt: HostRuntime) -> Result<(), Fail> {
     for (zeros, status) in [(MOST - 8, 0), (MOST - 7, 9), (u64::MAX, 9)] {
         let mut segment = headed(b"OSIL\x00\x00\x00\x01", zeros);
-        reindexes_as(&rt, rt.alloc(), &mut segment, status, b"OSII\x00\x00\x00\x01")?;
+        reindexes_as(
+            &rt,
+            rt.alloc(),
+            &mut segment,
+            status,
+            b"OSII\x00\x00\x00\x01",
+        )?;
         is_left(&rt, &segment, zeros);
     }
     Ok(())
