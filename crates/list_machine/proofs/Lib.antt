@@ -9,7 +9,14 @@ pub mod Running
 pub mod Worked
 pub mod Leading
 pub mod Counting
+pub mod Going
+pub mod Handling
 pub mod Refusing
 pub mod ViewMoves
 pub mod Ends
 pub mod Waiting
+pub mod Answering
+pub mod NoRuns
+pub mod ServerWorked
+pub mod TranscriptWorked
+pub mod Prefixes

@@ -43,7 +43,7 @@ only_run s t l run n = go (n == 1)
     go true = run
     go false = refl
 
-all_run : (s t : Stream) (l : List Move) → StreamRun s l t → StreamRun no_stream l no_stream → (n : ℕ) → StreamRun (cond (n == 1) s no_stream) l (cond (n == 1) t no_stream)
+pub all_run : (s t : Stream) (l : List Move) → StreamRun s l t → StreamRun no_stream l no_stream → (n : ℕ) → StreamRun (cond (n == 1) s no_stream) l (cond (n == 1) t no_stream)
 all_run s t l run none n = go (n == 1)
   where
     go : (b : Bool) → StreamRun (cond b s no_stream) l (cond b t no_stream)
@@ -60,7 +60,7 @@ put_one k j n = go (n == 1)
 abbrev with_link : Stream → Connection → Doing → Connection → Doing → Machine
 with_link s k d j e = record (machine_of s k d) { connections = put 1 j (machine_of s k d).connections; doing = e }
 
-linked_step : (s t : Stream) (k j : Connection) (d e : Doing) (event : Event) (moves : Moves) → Does (machine_of s k d) event moves (with_link s k d j e)
+pub linked_step : (s t : Stream) (k j : Connection) (d e : Doing) (event : Event) (moves : Moves) → Does (machine_of s k d) event moves (with_link s k d j e)
     → ((n : ℕ) → StreamRun (cond (n == 1) s no_stream) (moves n) (cond (n == 1) t no_stream)) → MachineStep (machine_of s k d) event (machine_of t j e)
 linked_step s t k j d e event moves does runs = record {
   moves = moves;
@@ -74,7 +74,7 @@ linked_step s t k j d e event moves does runs = record {
   moment = refl;
 }
 
-same_step : (s t : Stream) (k : Connection) (d e : Doing) (event : Event) (moves : Moves) → Does (machine_of s k d) event moves (record (machine_of s k d) { doing = e })
+pub same_step : (s t : Stream) (k : Connection) (d e : Doing) (event : Event) (moves : Moves) → Does (machine_of s k d) event moves (record (machine_of s k d) { doing = e })
     → ((n : ℕ) → StreamRun (cond (n == 1) s no_stream) (moves n) (cond (n == 1) t no_stream)) → MachineStep (machine_of s k d) event (machine_of t k e)
 same_step s t k d e event moves does runs = record {
   moves = moves;
@@ -95,12 +95,12 @@ quiet_of s k d answered idle_now = record { connections = λ n. go (n == 1); mad
     go true = answered
     go false = tt
 
-fresh_quiet : (s : Stream) → IsQuiet (machine_of s fresh idle)
+pub fresh_quiet : (s : Stream) → IsQuiet (machine_of s fresh idle)
 fresh_quiet s = quiet_of s fresh idle (refl, refl, refl) (λ name e. cc)
 
 -- ---- frames
 
-one_reading : (c : Command) → IsCommand command_table c → length (body_of command_table c) ≤ frame_max → Reading frame_max (frame_of c) (c ∷ []) [] Partial
+pub one_reading : (c : Command) → IsCommand command_table c → length (body_of command_table c) ≤ frame_max → Reading frame_max (frame_of c) (c ∷ []) [] Partial
 one_reading c is short =
     let body : List ℕ = body_of command_table c in
     record {
@@ -113,13 +113,13 @@ one_reading c is short =
       spelled = (record { is_command = is; spelled = refl }, tt);
     }
 
-give_step : (s : Stream) (c : Command) → IsCommand command_table c → length (body_of command_table c) ≤ frame_max → MachineStep (machine_of s fresh idle) (gives c) (machine_of s (connection_of (c ∷ []) []) idle)
+pub give_step : (s : Stream) (c : Command) → IsCommand command_table c → length (body_of command_table c) ≤ frame_max → MachineStep (machine_of s fresh idle) (gives c) (machine_of s (connection_of (c ∷ []) []) idle)
 give_step s c is short =
     linked_step s s fresh (connection_of (c ∷ []) []) idle idle (gives c) nowhere
     (record { quiet = fresh_quiet s; reads = (connection_of (c ∷ []) [], (c ∷ [], [], Partial, one_reading c is short, refl), refl, refl) })
     (λ n. refl)
 
-owed_step : (s : Stream) (c : Command) → MachineStep (machine_of s (connection_of [] (c ∷ [])) idle) (sent 1 c) (machine_of s fresh idle)
+pub owed_step : (s : Stream) (c : Command) → MachineStep (machine_of s (connection_of [] (c ∷ [])) idle) (sent 1 c) (machine_of s fresh idle)
 owed_step s c = linked_step s s (connection_of [] (c ∷ [])) fresh idle idle (sent 1 c) nowhere (Owed [] refl refl refl) (λ n. refl)
 
 poll_step : (s : Stream) → MachineStep (machine_of s fresh idle) (read (script.Poll 1)) (machine_of s fresh idle)
@@ -128,12 +128,12 @@ poll_step s = same_step s s fresh idle idle (read (script.Poll 1)) nowhere (reco
 settle_step : (s : Stream) → MachineStep (machine_of s fresh idle) (read (script.Settle 1)) (machine_of s fresh idle)
 settle_step s = same_step s s fresh idle idle (read (script.Settle 1)) nowhere (record { quiet = fresh_quiet s; reads = (refl, refl) }) (λ n. refl)
 
-commit_step : (s t : Stream) (k : Connection) (c : Chunk) → CommitStep s c t → MachineStep (machine_of s k idle) (committed 1 c) (machine_of t k idle)
+pub commit_step : (s t : Stream) (k : Connection) (c : Chunk) → CommitStep s c t → MachineStep (machine_of s k idle) (committed 1 c) (machine_of t k idle)
 commit_step s t k c step = same_step s t k idle idle (committed 1 c) (only 1 (commits c ∷ [])) (refl, refl) (only_run s t (commits c ∷ []) (t, step, refl))
 
 -- ---- chunks
 
-zero_fits : FitsSigned w64 (pos 0)
+pub zero_fits : FitsSigned w64 (pos 0)
 zero_fits = search rules
 
 opening_length : length (entries_bytes (Simple [] ∷ [])) ≡ 4
@@ -182,7 +182,7 @@ chunk_is epoch first id byte small low little =
 abbrev one : Chunk
 one = chunk_of 1 1 (item 1 97)
 
-abbrev was : List Confirmed
+abbrev pub was : List Confirmed
 was = record { name = Some p_name; items = item 1 97 ∷ [] } ∷ []
 
 abbrev both : List Frame → List Declaration
@@ -194,16 +194,16 @@ waiting_one = one_frame (item 1 97 ∷ []) true ∷ []
 abbrev answered_one : List Frame
 answered_one = one_frame (item 1 97 ∷ []) false ∷ []
 
-abbrev s0 : Stream
+abbrev pub s0 : Stream
 s0 = stream_of [] [] [] []
 
-abbrev s1 : Stream
+abbrev pub s1 : Stream
 s1 = stream_of (opening ∷ []) [] [] []
 
 abbrev s2 : Stream
 s2 = stream_of (opening ∷ []) (prepared ∷ []) [] []
 
-abbrev s3 : Stream
+abbrev pub s3 : Stream
 s3 = stream_of (opening ∷ []) (both []) [] []
 
 abbrev pub s4 : Stream
@@ -235,7 +235,7 @@ s11 = record s10 { chunks = opening ∷ one ∷ later ∷ []; seen = opening ∷
 
 -- ---- a stream is made
 
-create_step : MachineStep empty_machine (read (script.Create s_name)) (record empty_machine { doing = making s_name })
+pub create_step : MachineStep empty_machine (read (script.Create s_name)) (record empty_machine { doing = making s_name })
 create_step = record {
   moves = nowhere;
   after = record empty_machine { doing = making s_name };
@@ -248,7 +248,7 @@ create_step = record {
   moment = refl;
 }
 
-made_step : MachineStep (record empty_machine { doing = making s_name }) made (machine_of s0 no_connection idle)
+pub made_step : MachineStep (record empty_machine { doing = making s_name }) made (machine_of s0 no_connection idle)
 made_step = record {
   moves = begun 0 None (Some s_name ∷ []);
   after = record empty_machine { last = 1 };
@@ -286,7 +286,7 @@ prepare_step =
 undeclared_by : (s : Stream) (connection id : ℕ) → AllByRecursion (λ (d : Declaration). d.id ≡ id → ⊥) s.declarations → Declared s connection id → ⊥
 undeclared_by s connection id all at = (all_back (λ (d : Declaration). d.id ≡ id → ⊥) at.before (at.declaration ∷ at.after) (subst (AllByRecursion (λ (d : Declaration). d.id ≡ id → ⊥)) at.declared all)).0 at.of_id
 
-undeclared_of : (s : Stream) (k : Connection) (d : Doing) (connection id : ℕ) → AllByRecursion (λ (d : Declaration). d.id ≡ id → ⊥) s.declarations → IsUndeclared (machine_of s k d) connection id
+pub undeclared_of : (s : Stream) (k : Connection) (d : Doing) (connection id : ℕ) → AllByRecursion (λ (d : Declaration). d.id ≡ id → ⊥) s.declarations → IsUndeclared (machine_of s k d) connection id
 undeclared_of s k d connection id all number = go (number == 1)
   where
     go : (b : Bool) → Declared (cond b s no_stream) connection id → ⊥
@@ -324,7 +324,7 @@ publish_step =
       refl,
     ))
 
-one_commit : CommitStep s4 one s5
+pub one_commit : CommitStep s4 one s5
 unfolding u8_bytes u64_bytes
 one_commit = record {
   is_live = refl;
@@ -337,7 +337,7 @@ one_commit = record {
   is = refl;
 }
 
-confirm_step : MachineStep (machine_of s5 fresh idle) (sent 1 confirms_one) (machine_of s6 fresh idle)
+pub confirm_step : MachineStep (machine_of s5 fresh idle) (sent 1 confirms_one) (machine_of s6 fresh idle)
 unfolding u8_bytes u64_bytes
 confirm_step =
     same_step s5 s6 fresh idle idle (sent 1 confirms_one) (only 1 (confirms 1 7 (Some p_name) (item 1 97 ∷ []) ∷ [])) (Unasked refl (Confirms 1 7 (Some p_name) (item 1 97 ∷ []) refl refl refl))
@@ -393,16 +393,16 @@ deliver_step =
 
 -- ---- all stops
 
-stop_step : MachineStep (machine_of s8 fresh idle) (read (script.Stop 1 2 0 0)) (machine_of s8 fresh idle)
-stop_step = same_step s8 s8 fresh idle idle (read (script.Stop 1 2 0 0)) nowhere (record { quiet = fresh_quiet s8; reads = (refl, refl) }) (λ n. refl)
+pub stop_step : (s : Stream) → MachineStep (machine_of s fresh idle) (read (script.Stop 1 2 0 0)) (machine_of s fresh idle)
+stop_step s = same_step s s fresh idle idle (read (script.Stop 1 2 0 0)) nowhere (record { quiet = fresh_quiet s; reads = (refl, refl) }) (λ n. refl)
 
-down_step : MachineStep (machine_of s8 fresh idle) (told (output.Down 1 2)) (machine_of s8 fresh idle)
-down_step = same_step s8 s8 fresh idle idle (told (output.Down 1 2)) nowhere (tt, refl, refl) (λ n. refl)
+pub down_step : (s : Stream) → MachineStep (machine_of s fresh idle) (told (output.Down 1 2)) (machine_of s fresh idle)
+down_step s = same_step s s fresh idle idle (told (output.Down 1 2)) nowhere (tt, refl, refl) (λ n. refl)
 
-abbrev closing : Connection
+abbrev pub closing : Connection
 closing = record fresh { phase = leaving PeerEnded }
 
-abbrev over : Connection
+abbrev pub over : Connection
 over = record closing { phase = gone }
 
 forget_step : MachineStep (machine_of s8 fresh idle) (read (script.StopAll 0 0)) (machine_of s9 closing reopening)
@@ -439,10 +439,10 @@ later_commit = record { is_live = refl; is_chunk = opening_is 3 2 (omega arith) 
 
 -- ---- the run
 
-made_run : MachineRun empty_machine a_stream_made (machine_of s1 no_connection idle)
+pub made_run : MachineRun empty_machine a_stream_made (machine_of s1 no_connection idle)
 made_run = (_, create_step, (_, made_step, (_, commit_step s0 s1 no_connection opening open_commit, refl)))
 
-is_declare : IsCommand command_table declares_seven
+pub is_declare : IsCommand command_table declares_seven
 is_declare = (tt, (omega arith, (omega arith, (omega arith, omega arith))))
 
 is_publish : IsCommand command_table publishes_one
@@ -451,7 +451,7 @@ is_publish = (tt, (omega arith, (omega arith, ((omega arith, omega arith), tt)))
 is_subscribe : IsCommand command_table subscribes_three
 is_subscribe = (tt, (omega arith, (omega arith, (omega arith, (tt, (omega arith, tt))))))
 
-short_declare : length (body_of command_table declares_seven) ≤ frame_max
+pub short_declare : length (body_of command_table declares_seven) ≤ frame_max
 unfolding u8_bytes u16_bytes u32_bytes u64_bytes
 short_declare = omega arith
 
@@ -463,7 +463,7 @@ short_subscribe : length (body_of command_table subscribes_three) ≤ frame_max
 unfolding u8_bytes u16_bytes u32_bytes u64_bytes
 short_subscribe = omega arith
 
-declared_run : MachineRun (machine_of s1 no_connection idle) a_declaration (machine_of s3 fresh idle)
+pub declared_run : MachineRun (machine_of s1 no_connection idle) a_declaration (machine_of s3 fresh idle)
 declared_run = (_, prepare_step, (_, give_step s2 declares_seven is_declare short_declare, (_, declare_step, (_, owed_step s3 is_declared, refl))))
 
 confirmed_run : MachineRun (machine_of s3 fresh idle) a_confirm (machine_of s6 fresh idle)
@@ -475,9 +475,9 @@ delivered_run =
     (_, give_step s6 subscribes_three is_subscribe short_subscribe, (_, subscribe_step, (_, owed_step s7 is_subscribed, (_, poll_step s7, (_, deliver_step, refl)))))
 
 stopped_run : MachineRun (machine_of s8 fresh idle) a_stop (machine_of s11 over idle)
-stopped_run = (_, stop_step, (_, down_step, (_, forget_step, (_, bye_step, (_, up_step, (_, settle_again, (_, commit_step s10 s11 over later later_commit, refl)))))))
+stopped_run = (_, stop_step s8, (_, down_step s8, (_, forget_step, (_, bye_step, (_, up_step, (_, settle_again, (_, commit_step s10 s11 over later later_commit, refl)))))))
 
-run_on : (events more : List Event) (old mid new : Machine) → MachineRun old events mid → MachineRun mid more new → MachineRun old (events ++ more) new
+pub run_on : (events more : List Event) (old mid new : Machine) → MachineRun old events mid → MachineRun mid more new → MachineRun old (events ++ more) new
 run_on [] more old mid new r q = subst (λ (m : Machine). MachineRun m more new) r q
 run_on (event ∷ events) more old mid new r q = (r.0, r.1, run_on events more r.0 mid new r.2 q)
 
@@ -490,9 +490,9 @@ worked =
 
 -- ---- a frame too large
 
-connect_step : MachineStep (machine_of s1 no_connection idle) (read (script.Connect 1)) (machine_of s1 fresh idle)
-connect_step =
-    linked_step s1 s1 no_connection fresh idle idle (read (script.Connect 1)) nowhere (record { quiet = quiet_of s1 no_connection idle tt (λ name e. cc); reads = (refl, refl, refl) }) (λ n. refl)
+pub connect_step : (s : Stream) → MachineStep (machine_of s no_connection idle) (read (script.Connect 1)) (machine_of s fresh idle)
+connect_step s =
+    linked_step s s no_connection fresh idle idle (read (script.Connect 1)) nowhere (record { quiet = quiet_of s no_connection idle tt (λ name e. cc); reads = (refl, refl, refl) }) (λ n. refl)
 
 abbrev stuck : Connection
 stuck = record fresh { rest = large_size; cut = TooLarge 1048577 }
@@ -528,7 +528,7 @@ closed_step =
 pub large : MachineRun empty_machine (a_stream_made ++ a_frame_too_large) (machine_of s1 (record closed_large { phase = gone }) idle)
 large =
     run_on a_stream_made a_frame_too_large empty_machine (machine_of s1 no_connection idle) (machine_of s1 (record closed_large { phase = gone }) idle) made_run
-    (_, connect_step, (_, large_step, (_, misread_step, (_, close_step, (_, closed_step, refl)))))
+    (_, connect_step s1, (_, large_step, (_, misread_step, (_, close_step, (_, closed_step, refl)))))
 
 -- ---- a change in doubt
 

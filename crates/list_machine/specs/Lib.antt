@@ -18,3 +18,6 @@ pub mod Counting
 pub mod Wrongs
 pub mod Joining
 pub mod Waits
+pub mod Written
+pub mod ServerExample
+pub mod TranscriptExample

@@ -1,16 +1,20 @@
 //! What the list machine runs of events that are written out, and what it refuses.
 
-ghost use Rattle.std.specs.Prelude.{List, [], ◌∷◌, Option, ◌++◌};
+ghost use Rattle.std.specs.Prelude.{ℕ, List, [], ◌∷◌, Option, Some, None, ◌++◌, flat_map};
 ghost use Rattle.command_all.specs.declared.command.Command.{Command};
+ghost use Rattle.script_text.specs.declared.script.ScriptLine.TheVariants.{Connect};
 ghost use Rattle.script_text.specs.declared.output.Ending.{Ending};
-ghost use Rattle.script_text.specs.declared.output.OutputLine.TheVariants.{LogDown};
-ghost use Rattle.list_machine.specs.Transcripts.{InspectsKept};
+ghost use Rattle.script_text.specs.declared.output.OutputLine.TheVariants.{Committed, LogDown};
+ghost use Rattle.script_text.specs.Script.{line_bytes};
+ghost use Rattle.script_text.specs.Outputs.{output_bytes};
+ghost use Rattle.list_machine.specs.Transcripts.{Transcript, InspectsKept};
 ghost use Rattle.list_machine.specs.Waits.{HasNoRun, log_to, inspected_as};
 ghost use Rattle.list_machine.specs.Streams.{waiting, active, Stream};
 ghost use Rattle.list_machine.specs.Machines.{fresh, idle};
-ghost use Rattle.list_machine.specs.Steps.{committed, sent, handled, ended};
-ghost use Rattle.list_machine.specs.Examples.{HasRun, a_stream_made, the_worked_run, a_frame_too_large, a_change_in_doubt, item, chunk_of, opening, stored_chunk, machine_of, reader, is_declared, delivery};
-ghost use Rattle.list_machine.specs.Wrongs.{HasNoStep, published, subscribed, one_waits, two_wait, two_then_one, one_confirmed, five_waits, first_chunk, second_chunk, later_opening, confirms_ids, ended_connection};
+ghost use Rattle.list_machine.specs.Steps.{read, committed, sent, handled, ended};
+ghost use Rattle.list_machine.specs.Examples.{HasRun, a_stream_made, a_declaration, the_worked_run, a_frame_too_large, a_change_in_doubt, item, chunk_of, opening, stored_chunk, machine_of, reader, is_declared, delivery};
+ghost use Rattle.list_machine.specs.TranscriptExample.{a_script, its_output};
+ghost use Rattle.list_machine.specs.Wrongs.{HasNoStep, published, subscribed, one_waits, two_wait, two_then_one, one_confirmed, five_waits, first_chunk, second_chunk, third_chunk, later_opening, confirms_ids, ended_connection, published_run, committed_run, three_run, stored_run, of_group, a_subscription};
 
 /// Written out: a stream is made and opens, a publisher is declared, its item is committed and confirmed, a subscription
 /// gets it, all stops, and another epoch opens; a size too large closes its connection; a name is refused, and a stream is
@@ -72,6 +76,55 @@ pub fn wrong_runs_are_none()
     ensures frame { (command : Command) → HasNoRun (the_worked_run ++ sent 1 command ∷ []) }
     ensures handling { (command : Command) (answer : Option Command) → HasNoRun (the_worked_run ++ handled 1 command answer ∷ []) }
     ensures end { (how : Ending) → HasNoRun (the_worked_run ++ ended 1 how ∷ []) }
+{}
+
+/// No run of the machine with nothing goes on from one written out so: by a row that nobody sent, or one that passes an
+/// earlier item over. It does nothing.
+pub fn wrong_rows_have_no_run()
+    ensures nobody_sent { HasNoRun (published_run (item 1 97 ∷ []) ++ committed 1 (chunk_of 1 1 (item 9 99)) ∷ []) }
+    ensures passing { HasNoRun (published_run (item 1 97 ∷ item 2 98 ∷ []) ++ committed 1 (chunk_of 1 1 (item 2 98)) ∷ []) }
+{}
+
+/// The same for the confirm of an item before its commit, twice, of no declaration, or above the greatest id. It does
+/// nothing.
+pub fn wrong_confirms_have_no_run()
+    ensures early { HasNoRun (published_run (item 1 97 ∷ []) ++ sent 1 (confirms_ids 7 (1 ∷ [])) ∷ []) }
+    ensures twice { HasNoRun (committed_run (item 1 97 ∷ []) ++ sent 1 (confirms_ids 7 (1 ∷ [])) ∷ sent 1 (confirms_ids 7 (1 ∷ [])) ∷ []) }
+    ensures undeclared { HasNoRun (committed_run (item 1 97 ∷ []) ++ sent 1 (confirms_ids 9 (1 ∷ [])) ∷ []) }
+    ensures above { HasNoRun (committed_run (item 1 97 ∷ item 5 101 ∷ []) ++ sent 1 (confirms_ids 7 (1 ∷ 5 ∷ [])) ∷ []) }
+{}
+
+/// The same for the delivery of a chunk without a credit, out of order, past a gap, that stores an offset, or to a consumer
+/// that waits. It does nothing.
+pub fn wrong_deliveries_have_no_run()
+    ensures uncredited { HasNoRun (three_run ++ (a_subscription 0 None ++ sent 1 (delivery first_chunk) ∷ [])) }
+    ensures out_of_order { HasNoRun (three_run ++ (a_subscription 3 None ++ sent 1 (delivery second_chunk) ∷ [])) }
+    ensures past_gap { HasNoRun (three_run ++ (a_subscription 3 None ++ sent 1 (delivery first_chunk) ∷ sent 1 (delivery third_chunk) ∷ [])) }
+    ensures of_delta { HasNoRun (stored_run ++ (a_subscription 3 None ++ sent 1 (delivery (stored_chunk 1)) ∷ [])) }
+    ensures to_waiting { HasNoRun (three_run ++ (a_subscription 3 (Some of_group) ++ sent 1 (delivery first_chunk) ∷ [])) }
+{}
+
+/// The same for an answer that is owed to nobody, and for one that was written already. It does nothing.
+pub fn wrong_answers_have_no_run()
+    ensures not_owed { HasNoRun (a_stream_made ++ read (Connect 1) ∷ sent 1 is_declared ∷ []) }
+    ensures twice { HasNoRun (a_stream_made ++ (a_declaration ++ sent 1 is_declared ∷ [])) }
+{}
+
+/// What goes before these wrong events is a run, so each is refused for itself. It does nothing.
+pub fn runs_before_wrong_events_stand()
+    ensures published { HasRun (published_run (item 1 97 ∷ item 2 98 ∷ [])) }
+    ensures confirmed { HasRun (committed_run (item 1 97 ∷ []) ++ sent 1 (confirms_ids 7 (1 ∷ [])) ∷ []) }
+    ensures committed { HasRun (committed_run (item 1 97 ∷ item 5 101 ∷ [])) }
+    ensures uncredited { HasRun (three_run ++ a_subscription 0 None) }
+    ensures delivered { HasRun (three_run ++ (a_subscription 3 None ++ sent 1 (delivery first_chunk) ∷ [])) }
+    ensures waiting { HasRun (three_run ++ a_subscription 3 (Some of_group)) }
+    ensures stored { HasRun (stored_run ++ a_subscription 3 None) }
+{}
+
+/// A script and what is written are a transcript; a commit line is none where nothing was read. It does nothing.
+pub fn transcripts_are_told_apart()
+    ensures worked { Transcript (flat_map line_bytes a_script) (flat_map output_bytes its_output) }
+    ensures unread { (number : ℕ) (chunk : List ℕ) → Transcript [] (output_bytes (Committed number chunk)) → ⊥ }
 {}
 
 /// Of three members, an inspection is right where two hold what the commit lines say, or one does and one is down; it is

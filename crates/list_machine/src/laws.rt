@@ -5,14 +5,16 @@ ghost use Rattle.std.specs.List.{AllByRecursion};
 ghost use Rattle.chunk_format.specs.Logs.{GoesOn, IsLog};
 ghost use Rattle.command_data.specs.declared.item.Tagged.{Tagged};
 ghost use Rattle.chunk_format.specs.declared.chunk.Chunk.{Chunk};
+ghost use Rattle.chunk_format.specs.declared.chunk.Header.{Header};
 ghost use Rattle.script_text.specs.declared.output.Ending.{Ending};
 ghost use Rattle.list_machine.specs.Commits.{CommitStep};
 ghost use Rattle.list_machine.specs.Streams.{Stream, Subscription, no_stream};
 ghost use Rattle.list_machine.specs.Moves.{Move, StreamRun};
 ghost use Rattle.list_machine.specs.Machines.{Machine, empty_machine};
-ghost use Rattle.list_machine.specs.Steps.{Event, committed, ended, MachineStep, MachineRun, moves_at};
+ghost use Rattle.list_machine.specs.Steps.{Event, committed, sent, ended, MachineStep, MachineRun, moves_at};
 ghost use Rattle.list_machine.specs.Transcripts.{Transcript, CommitLines};
 ghost use Rattle.list_machine.specs.Waits.{LinesWait, InspectsItsList};
+ghost use Rattle.list_machine.specs.Written.{AnswersFixed, AnswersWritten, confirm_frame, delivery_frame, IsConfirm, IsDelivery, AmongConfirmed, StepBehind};
 ghost use Rattle.list_machine.specs.Discipline.{Disciplined, DisciplinedRun};
 ghost use Rattle.list_machine.specs.Laws.{IsNotOf, RowsRight, ExactlyOnce, DeliversRun, ConfirmedBy, tally_of, no_tally, Tallied};
 
@@ -55,6 +57,21 @@ pub fn commit_lines_are_commits()
 /// It does nothing.
 pub fn nothing_comes_behind_the_end()
     ensures { (before behind : List Event) (c : ℕ) (how : Ending) (old new : Machine) → MachineRun old (before ++ ended c how ∷ behind) new → AllByRecursion (IsNotOf c) behind }
+{}
+
+/// The answers that are written on a connection, with those that are still owed behind them, are those that its handled
+/// commands fixed, each once and in order; so no answer is written that isn't owed, and none twice. It does nothing.
+pub fn answers_are_written_once()
+    ensures { (events : List Event) (new : Machine) (c : ℕ) → MachineRun empty_machine events new → AnswersFixed c events ≡ AnswersWritten c events ++ (new.connections c).owed }
+{}
+
+/// Each confirm that is written is that of one frame that waits, of a declaration that stands, whose items the list has, and
+/// one of those that its stream counts as confirmed; and each delivery is that of the next user chunk, to an active
+/// subscription with a credit. It does nothing.
+pub fn unasked_frames_are_steps()
+    ensures confirms { (c id : ℕ) (ids : List ℕ) (before behind : List Event) (new : Machine) → MachineRun empty_machine (before ++ sent c (confirm_frame id ids) ∷ behind) new → StepBehind (sent c (confirm_frame id ids)) (IsConfirm c id ids) before behind new }
+    ensures confirmed { (c id : ℕ) (ids : List ℕ) (before behind : List Event) (new : Machine) (run : MachineRun empty_machine (before ++ sent c (confirm_frame id ids) ∷ behind) new) → AmongConfirmed ids empty_machine (before ++ sent c (confirm_frame id ids) ∷ behind) new run }
+    ensures deliveries { (c id : ℕ) (last : Option ℕ) (header : Header) (payload : List ℕ) (before behind : List Event) (new : Machine) → MachineRun empty_machine (before ++ sent c (delivery_frame id last header payload) ∷ behind) new → StepBehind (sent c (delivery_frame id last header payload)) (IsDelivery c id last header payload) before behind new }
 {}
 
 /// Where a line is read, each command that was read before it is handled, each answer is written, and each connection that

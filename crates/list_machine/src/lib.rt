@@ -8,14 +8,16 @@ mod laws;
 mod server;
 
 pub use examples::{
-    inspections_are_told_apart, nothing_else_is_written, worked_runs_stand,
-    wrong_chunks_are_refused, wrong_confirms_are_refused, wrong_deliveries_are_refused,
+    inspections_are_told_apart, nothing_else_is_written, runs_before_wrong_events_stand,
+    transcripts_are_told_apart, worked_runs_stand, wrong_answers_have_no_run,
+    wrong_chunks_are_refused, wrong_confirms_are_refused, wrong_confirms_have_no_run,
+    wrong_deliveries_are_refused, wrong_deliveries_have_no_run, wrong_rows_have_no_run,
     wrong_runs_are_none,
 };
 pub use joining::{handed_out_is_confirmed, moves_are_commits};
 pub use laws::{
-    commit_lines_are_commits, confirmed_stand_once, deliveries_are_runs,
+    answers_are_written_once, commit_lines_are_commits, confirmed_stand_once, deliveries_are_runs,
     inspections_look_at_the_list, lines_wait_for_answers, lists_only_grow,
-    nothing_comes_behind_the_end, rows_are_right,
+    nothing_comes_behind_the_end, rows_are_right, unasked_frames_are_steps,
 };
-pub use server::{a_server_commits, a_server_confirms};
+pub use server::{a_server_at_work, a_server_commits, a_server_confirms};

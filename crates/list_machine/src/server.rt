@@ -8,7 +8,9 @@ ghost use Rattle.command_data.specs.declared.item.Tagged.{Tagged};
 ghost use Rattle.list_machine.specs.Items.{items_by, AreReached, AtMostAsOften};
 ghost use Rattle.list_machine.specs.Streams.{Stream};
 ghost use Rattle.list_machine.specs.Commits.{CommitStep};
-ghost use Rattle.list_machine.specs.Leaders.{Server, new_server, Did, ServerRun, Offers, CommitsNext};
+ghost use Rattle.list_machine.specs.Leaders.{Server, new_server, Did, elected, ServerRun, Offers, CommitsNext};
+ghost use Rattle.list_machine.specs.Examples.{item, chunk_of};
+ghost use Rattle.list_machine.specs.ServerExample.{two_offers, after_offers, after_election, after_stop, third_offer, after_third, with_first};
 ghost use Rattle.list_machine.specs.Counting.{Counter, new_counter, Counts, CounterRun};
 
 /// What a correct server commits is taken: each next part of a sequence of some leader is a commit behind what stands
@@ -22,4 +24,15 @@ pub fn a_server_commits()
 pub fn a_server_confirms()
     ensures named { (did : List Did) (old new : Server) (items : List Tagged) (rows rest : List LogRow) (name : List ℕ) → ServerRun new_server did old → (step : Offers old items rows new) → step.one.name ≡ Some name → AreReached (items_by name (new.sequence ++ rest)) items }
     ensures counted { (events : List Counts) (new : Counter) → CounterRun new_counter events new → AtMostAsOften new.spent (flat_map bare new.committed) }
+{}
+
+/// The premises of both are met by a server at work: of two declarations of a name the second repeats an item, which is
+/// left out; an election drops the row behind it; all stops; and the item is offered again and may be committed. It does
+/// nothing.
+pub fn a_server_at_work()
+    ensures offers { ServerRun new_server two_offers after_offers }
+    ensures elects { ServerRun after_offers (elected ∷ []) after_election }
+    ensures stops { ServerRun after_election (elected ∷ []) after_stop }
+    ensures goes_on { ServerRun after_stop third_offer after_third }
+    ensures commits { CommitsNext after_third with_first (chunk_of 2 1 (item 2 98)) }
 {}
