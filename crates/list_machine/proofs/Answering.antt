@@ -1,10 +1,9 @@
 -- The answers that are written on a connection are those that were fixed; and what is sent unasked is a step of a stream.
-use Rattle.std.proofs.Common.{◌≡◌, ℕ, ◌==◌, ◌+◌, ◌&&◌, Bool, true, false, cond, List, [], ◌∷◌, ◌++◌, Option, Some, None, refl, sym, ap, subst, ◌∙◌, inl, eq-eqb, append_assoc}
+use Rattle.std.proofs.Common.{◌≡◌, ℕ, ◌==◌, ◌&&◌, Bool, true, false, cond, List, [], ◌∷◌, ◌++◌, Option, Some, None, refl, sym, ap, subst, ◌∙◌, inl, eq-eqb, append_assoc}
 use Rattle.std.specs.List.{AllByRecursion}
 use Rattle.std.proofs.lemmas.Bool.{eqb-true}
 use Rattle.std.proofs.lemmas.List.{append-nil}
 use Rattle.std.proofs.lemmas.Grind.{flat_map-append}
-use Rattle.chunk_format.specs.declared.chunk.Chunk.{Chunk}
 use Rattle.chunk_format.specs.declared.chunk.Header.{Header}
 use Rattle.command_data.specs.Deliveries.{delivery_of}
 use Rattle.chunk_format.specs.Chunks.{header_of, entries_bytes}
@@ -15,7 +14,6 @@ use Rattle.command_all.specs.declared.command.Command.{Command}
 use Rattle.command_all.specs.declared.command.Command.TheVariants.{Data, Admin}
 use Rattle.script_text.specs.declared.script.ScriptLine.{ScriptLine}
 use Rattle.script_text.specs.declared.script.ScriptLine.TheVariants.{Create, Connect, Prepare, Give, Poll, Leave, Tick, Elect, Deliver, Lose, Perform, Stop, Restart, Fail, Settle, Inspect, StopAll}
-use Rattle.script_text.specs.declared.output.Ending.{Ending}
 use Rattle.script_text.specs.declared.output.Ending.TheVariants.{ClosedByUs}
 use Rattle.command_fields.specs.Codes.{number_of_code}
 use Rattle.list_machine.specs.Items.{IsIn}

@@ -1,11 +1,8 @@
 -- How a run goes on, where its next event allows one way only.
-use Rattle.std.proofs.Common.{◌≡◌, ℕ, ◌+◌, ◌==◌, ◌≤◌, ◌<◌, ◌⊎◌, Bool, true, false, cond, List, [], ◌∷◌, ◌++◌, length, Option, Some, None, refl, sym, ap, subst, ◌∙◌, inl, inr, eq-eqb, arith}
+use Rattle.std.proofs.Common.{◌≡◌, ℕ, ◌+◌, ◌==◌, ◌≤◌, Bool, true, false, cond, List, [], ◌∷◌, ◌++◌, length, Some, None, refl, sym, ap, subst, ◌∙◌, eq-eqb, arith}
 use Rattle.std.proofs.lemmas.Bool.{eqb-true}
 use Rattle.chunk_format.specs.declared.chunk.Chunk.{Chunk}
 use Rattle.command_fields.specs.Tables.{IsCommand, body_of}
-use Rattle.command_fields.specs.Codes.{number_of_code}
-use Rattle.command_fields.specs.declared.response.ResponseCode.{ResponseCode}
-use Rattle.command_fields.specs.declared.response.ResponseCode.TheVariants as says
 use Rattle.command_all.specs.declared.command.Command.{Command}
 use Rattle.command_all.specs.Commands.{command_table, frame_of}
 use Rattle.command_all.specs.Reading.{ReadingEnd, Partial, Reading}
@@ -14,8 +11,8 @@ use Rattle.script_text.specs.declared.script.ScriptLine.TheVariants as script
 use Rattle.list_machine.specs.Streams.{unmade, live, Stream, no_stream}
 use Rattle.list_machine.specs.Moves.{Move, begins, commits, declares, MoveStep, StreamRun}
 use Rattle.list_machine.specs.Machines.{Doing, making, Connection, fresh, no_connection, Machine, empty_machine, put, Moves, nowhere, only, begun}
-use Rattle.list_machine.specs.Lines.{frame_max, linked, Gives}
-use Rattle.list_machine.specs.Steps.{Event, read, made, committed, MachineStep, MachineRun}
+use Rattle.list_machine.specs.Lines.{frame_max, Gives}
+use Rattle.list_machine.specs.Steps.{Event, read, committed, MachineStep, MachineRun}
 use Rattle.list_machine.specs.Examples.{s_name, opening, machine_of, stream_of, connection_of, prepared, gives, a_stream_made}
 
 -- ---- a machine with one stream and one connection

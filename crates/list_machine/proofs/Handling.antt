@@ -12,19 +12,19 @@ use Rattle.command_fields.specs.declared.response.ResponseCode.TheVariants as sa
 use Rattle.command_data.specs.declared.item.Tagged.{Tagged}
 use Rattle.command_data.specs.declared.command.DataCommand.TheVariants as data_commands
 use Rattle.command_all.specs.declared.command.Command.{Command}
-use Rattle.command_all.specs.declared.command.Command.TheVariants.{Data, Admin}
-use Rattle.list_machine.specs.Streams.{StoredOffset, Frame, Confirmed, Declaration, Activity, active, Subscription, live, Stream, no_stream, items_of}
-use Rattle.list_machine.specs.Publishing.{Declared, turned, known_by, PublishStep, Waiting, ConfirmStep}
-use Rattle.list_machine.specs.Subscribing.{new_subscription, Subscribed, DeliverStep, with_delivery}
-use Rattle.list_machine.specs.Moves.{Move, declares, publishes as publish_move, confirms, subscribes as subscribe_move, stores, delivers, MoveStep, StreamRun}
-use Rattle.list_machine.specs.Machines.{open_now, Connection, fresh, Machine, Moves, nowhere, only}
+use Rattle.command_all.specs.declared.command.Command.TheVariants.{Data}
+use Rattle.list_machine.specs.Streams.{StoredOffset, Frame, Confirmed, Declaration, Subscription, live, Stream, items_of}
+use Rattle.list_machine.specs.Publishing.{Declared, turned, known_by, ConfirmStep}
+use Rattle.list_machine.specs.Subscribing.{new_subscription, DeliverStep, with_delivery}
+use Rattle.list_machine.specs.Moves.{publishes as publish_move, confirms, delivers, StreamRun}
+use Rattle.list_machine.specs.Machines.{Connection, fresh, Machine, Moves, nowhere, only}
 use Rattle.list_machine.specs.Lines.{linked}
-use Rattle.list_machine.specs.Answers.{Act, move_of, acts, declare, publish, subscribe, store, group_of, Outcome, nothing, owing, after_by, moves_by, Publishes, Empty, Taken, Refused, Undeclared, Stores, Kept, Dropped, Handles, Served, Untaken, Answers, Declares, Subscribes}
+use Rattle.list_machine.specs.Answers.{Act, move_of, acts, declare, publish, subscribe, store, group_of, Outcome, owing, after_by, moves_by, Empty, Taken, Refused, Undeclared, Kept, Dropped, Handles, Served, Untaken, Declares, Subscribes}
 use Rattle.list_machine.specs.Sends.{ids_of_items, Sends, Confirms, Delivers, Loses, Asks, Tunes, Beats, SendStep, Owed, Unasked}
-use Rattle.list_machine.specs.Steps.{Event, handled, sent, MachineStep}
+use Rattle.list_machine.specs.Steps.{handled, sent, MachineStep}
 use Rattle.list_machine.specs.Examples.{s_name, p_name, connection_of, prepared, seven, declares_seven, is_declared, is_subscribed, delivery}
 use Rattle.list_machine.specs.Wrongs.{publishes, confirms_ids, subscribes, stores_one}
-use Rattle.list_machine.proofs.Going.{Stands, Leads, LeadsTo, stands_by, stands_still, same_link, new_link, live_is_one, Moved, moved_at, moves_of_one}
+use Rattle.list_machine.proofs.Going.{Stands, Leads, LeadsTo, stands_by, stands_still, same_link, new_link, live_is_one, moved_at, moves_of_one}
 
 -- ---- lists of one and of two
 

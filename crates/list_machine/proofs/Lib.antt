@@ -20,3 +20,4 @@ pub mod NoRuns
 pub mod ServerWorked
 pub mod TranscriptWorked
 pub mod Prefixes
+pub mod Giving

@@ -9,18 +9,18 @@ use Rattle.command_all.specs.Commands.{command_table}
 use Rattle.script_text.specs.declared.script.ScriptLine.TheVariants as script
 use Rattle.list_machine.specs.Streams.{Frame, Stream}
 use Rattle.list_machine.specs.Subscribing.{new_subscription, with_delivery}
-use Rattle.list_machine.specs.Machines.{Connection, fresh, no_connection, Machine, empty_machine}
+use Rattle.list_machine.specs.Machines.{Connection, fresh, Machine, empty_machine}
 use Rattle.list_machine.specs.Lines.{frame_max}
 use Rattle.list_machine.specs.Answers.{group_of}
 use Rattle.list_machine.specs.Steps.{Event, read, handled, committed, sent, MachineRun}
 use Rattle.list_machine.specs.Waits.{HasNoRun}
-use Rattle.list_machine.specs.Examples.{p_name, item, chunk_of, opening, stored_chunk, stream_of, connection_of, prepared, seven, declares_seven, is_declared, is_subscribed, delivery, gives, a_stream_made, a_declaration}
-use Rattle.list_machine.specs.Wrongs.{one_waits, two_wait, one_confirmed, first_chunk, second_chunk, third_chunk, confirms_ids, publishes, published_run, committed_run, three_run, stores_one, stored_run, of_group, subscribes, a_subscription}
+use Rattle.list_machine.specs.Examples.{p_name, item, chunk_of, opening, stored_chunk, stream_of, connection_of, prepared, seven, declares_seven, is_declared, delivery, gives, a_stream_made, a_declaration}
+use Rattle.list_machine.specs.Wrongs.{first_chunk, second_chunk, third_chunk, confirms_ids, publishes, published_run, committed_run, three_run, stores_one, stored_run, of_group, subscribes, a_subscription}
 use Rattle.list_machine.proofs.Worked.{one_reading, is_declare, short_declare}
 use Rattle.list_machine.proofs.Answering.{answers_once}
-use Rattle.list_machine.proofs.Going.{Comes, Leads, comes_by, comes_made, pushed, leads_commit, leads_prepare, leads_connect, leads_give}
-use Rattle.list_machine.proofs.Handling.{frames_of, read_by, joined, leads_declare, leads_publish, leads_subscribe, leads_answer, leads_confirm, leads_deliver, StoredOr, stored_or}
-use Rattle.list_machine.proofs.Refusing.{Refused, published_stream, nobody_sent, passing, confirm_early, confirm_twice, confirm_undeclared, one_five_wait, confirm_both, uncredited, to_waiting, other_next, none_next, not_owed}
+use Rattle.list_machine.proofs.Going.{Comes, Leads, comes_by, comes_made, pushed, leads_commit, leads_prepare, leads_give}
+use Rattle.list_machine.proofs.Handling.{read_by, joined, leads_declare, leads_publish, leads_subscribe, leads_answer, leads_confirm, leads_deliver, stored_or}
+use Rattle.list_machine.proofs.Refusing.{Refused, published_stream, nobody_sent, passing, confirm_early, confirm_twice, confirm_undeclared, confirm_both, uncredited, to_waiting, other_next, none_next}
 
 -- a run doesn't go on by what is refused where it comes to
 no_run : {s : Stream} {k : Connection} {event : Event} {new : Machine} → Refused s k event → Comes s k (event ∷ []) new → ⊥

@@ -1,32 +1,29 @@
 -- What goes before the wrong events is a run.
-use Rattle.std.proofs.Common.{◌≡◌, ℕ, ◌==◌, ◌<◌, ◌≤◌, Bool, true, false, cond, List, [], ◌∷◌, ◌++◌, length, codes, Option, Some, None, refl, sym, ap, subst, ◌∙◌, inl, inr, arith, length-append}
+use Rattle.std.proofs.Common.{◌≡◌, ℕ, ◌==◌, ◌≤◌, Bool, true, false, cond, List, [], ◌∷◌, ◌++◌, length, codes, Option, Some, None, refl, sym, ap, subst, inl, inr, arith}
 use Rattle.std.specs.List.{AllByRecursion}
-use Rattle.std.proofs.lemmas.List.{append-nil}
 use Rattle.std.proofs.lemmas.List.Elements.{All-from_recursion}
 use Rattle.frame_wire.specs.Fields.{u8_bytes, u32_bytes, u64_bytes}
-use Rattle.frame_wire.proofs.FieldLaws.{u32_length}
 use Rattle.chunk_format.specs.declared.entry.Entry.TheVariants.{Simple}
-use Rattle.chunk_format.specs.declared.chunk.Chunk.{Chunk}
-use Rattle.chunk_format.specs.Chunks.{IsEntry, HasRecords, IsChunk, entry_bytes, entries_bytes}
+use Rattle.chunk_format.specs.Chunks.{IsEntry, HasRecords, IsChunk, entries_bytes}
 use Rattle.chunk_format.specs.Tags.{DeltaOffset, delta_bytes}
 use Rattle.command_fields.specs.declared.property.Property.{Property}
 use Rattle.command_fields.specs.declared.offset.OffsetSpec.TheVariants.{First}
 use Rattle.command_fields.specs.declared.response.ResponseCode.TheVariants as says
 use Rattle.command_data.specs.declared.item.Tagged.{Tagged}
-use Rattle.list_machine.specs.Streams.{Frame, Subscription, live, Stream, no_stream}
+use Rattle.list_machine.specs.Streams.{Subscription, live, Stream, no_stream}
 use Rattle.list_machine.specs.Commits.{CommitStep}
 use Rattle.list_machine.specs.Subscribing.{IsOther, new_subscription, with_delivery}
 use Rattle.list_machine.specs.Moves.{publishes as publish_move, subscribes as subscribe_move, stores, delivers}
-use Rattle.list_machine.specs.Machines.{Connection, fresh, no_connection, idle, Machine, empty_machine, only}
+use Rattle.list_machine.specs.Machines.{fresh, no_connection, idle, Machine, empty_machine, only}
 use Rattle.list_machine.specs.Answers.{publish, subscribe, store, acts, Taken, Kept, Served, group_of}
 use Rattle.list_machine.specs.Sends.{Delivers, Unasked}
-use Rattle.list_machine.specs.Steps.{Event, handled, committed, sent, MachineStep, MachineRun}
-use Rattle.list_machine.specs.Examples.{s_name, item, chunk_of, opening, stored_chunk, machine_of, stream_of, connection_of, prepared, seven, is_subscribed, delivery, gives, a_stream_made, a_declaration}
+use Rattle.list_machine.specs.Steps.{handled, committed, sent, MachineStep, MachineRun}
+use Rattle.list_machine.specs.Examples.{s_name, item, opening, stored_chunk, machine_of, connection_of, prepared, seven, is_subscribed, delivery, gives, a_stream_made, a_declaration}
 use Rattle.list_machine.specs.Wrongs.{one_waits, first_chunk, second_chunk, third_chunk, confirms_ids, publishes, published_run, committed_run, three_run, stores_one, stored_run, of_group, subscribes, a_subscription}
 use Rattle.list_machine.proofs.Worked.{s1, s3, linked_step, same_step, only_run, give_step, owed_step, commit_step, zero_fits, chunk_is, made_run, declared_run, run_on, confirm_step, one_commit, s6}
 use Rattle.list_machine.proofs.Handling.{joined, read_by}
 use Rattle.list_machine.proofs.Refusing.{published_stream}
-use Rattle.list_machine.proofs.NoRuns.{with_seven, frame_waits, three_items, three_stream, IsFrame, IsSubscribe, frame_one, frame_two, frame_one_five, frame_three, subscribe_with, subscribe_of_group, is_store, short_store}
+use Rattle.list_machine.proofs.NoRuns.{with_seven, frame_waits, three_items, three_stream, IsFrame, IsSubscribe, frame_one, frame_one_five, frame_three, subscribe_with, subscribe_of_group, is_store, short_store}
 
 -- ---- items that are published
 

@@ -1,5 +1,5 @@
 -- Why the machine doesn't take the wrong steps.
-use Rattle.std.proofs.Common.{◌≡◌, ℕ, ◌≤◌, ◌⊎◌, false, true, List, [], ◌∷◌, ◌++◌, Option, Some, None, refl, sym, ap, subst, ◌∙◌, inl, inr, arith}
+use Rattle.std.proofs.Common.{◌≡◌, ℕ, ◌≤◌, false, true, List, [], ◌∷◌, ◌++◌, Option, Some, None, refl, sym, ap, subst, ◌∙◌, inl, inr, arith}
 use Rattle.frame_wire.specs.Fields.{u8_bytes, u64_bytes}
 use Rattle.chunk_format.specs.declared.entry.Entry.{Entry}
 use Rattle.chunk_format.specs.declared.chunk.Chunk.{Chunk}
@@ -12,16 +12,15 @@ use Rattle.command_data.specs.declared.item.Tagged.{Tagged}
 use Rattle.command_all.specs.declared.command.Command.{Command}
 use Rattle.script_text.specs.declared.output.Ending.{Ending}
 use Rattle.list_machine.specs.Items.{items_in, AnyByRecursion, AreReached}
-use Rattle.list_machine.specs.Streams.{Frame, Declaration, waiting, active, Subscription, StoredOffset, Stream}
+use Rattle.list_machine.specs.Streams.{Frame, Declaration, waiting, active, Subscription, Stream}
 use Rattle.list_machine.specs.Commits.{SentInOrder}
 use Rattle.list_machine.specs.Publishing.{MayConfirm}
-use Rattle.list_machine.specs.Subscribing.{with_delivery}
 use Rattle.list_machine.specs.Moves.{commits}
 use Rattle.list_machine.specs.Machines.{open_now, leaving, gone, Connection, fresh, idle, Machine, Moves}
 use Rattle.list_machine.specs.Sends.{ids_of_items, SendStep, Owed, Unasked}
 use Rattle.list_machine.specs.Steps.{Event, committed, sent, handled, ended, MachineStep}
-use Rattle.list_machine.specs.Examples.{p_name, item, chunk_of, opening, stored_chunk, machine_of, stream_of, prepared, seven, reader, is_declared, delivery}
-use Rattle.list_machine.specs.Wrongs.{HasNoStep, one_waits, two_wait, two_then_one, one_confirmed, five_waits, first_chunk, second_chunk, third_chunk, later_opening, confirms_ids, ended_connection}
+use Rattle.list_machine.specs.Examples.{p_name, item, chunk_of, opening, machine_of, stream_of, prepared, seven, is_declared, delivery}
+use Rattle.list_machine.specs.Wrongs.{HasNoStep, one_waits, two_wait, two_then_one, one_confirmed, five_waits, first_chunk, later_opening, confirms_ids, ended_connection}
 use Rattle.list_machine.proofs.Going.{Stands, written, Moved, moved_at}
 use Rattle.list_machine.proofs.Handling.{frames_of, read_by, alone, one_of_two, seven_of, none_owed, plain_unasked, confirm_told, deliver_told}
 

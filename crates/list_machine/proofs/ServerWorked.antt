@@ -1,5 +1,5 @@
 -- A server at work, step by step.
-use Rattle.std.proofs.Common.{ℕ, ◌≤◌, ◌<◌, List, [], ◌∷◌, Some, refl, inl, inr, arith}
+use Rattle.std.proofs.Common.{[], ◌∷◌, refl, inl, inr, arith}
 use Rattle.frame_wire.specs.Fields.{u8_bytes, u64_bytes}
 use Rattle.list_machine.specs.Leaders.{new_server, elected, ServerRun, CommitsNext}
 use Rattle.list_machine.specs.Examples.{p_name, item, chunk_of}

@@ -1,11 +1,9 @@
 -- Lines wait for the answers of those before them; what is inspected; and runs that there aren't.
-use Rattle.std.proofs.Common.{◌≡◌, ◌≢◌, ℕ, ◌+◌, ◌*◌, ◌<◌, List, [], ◌∷◌, ◌++◌, length, map, Option, refl, sym, ap, subst, ◌∙◌, arith}
+use Rattle.std.proofs.Common.{◌≡◌, ℕ, ◌*◌, ◌<◌, List, [], ◌∷◌, ◌++◌, map, Option, refl, sym, ap, subst, ◌∙◌, arith}
 use Rattle.std.specs.Prelude.{count_by}
 use Rattle.frame_wire.specs.Fields.{u8_bytes, u64_bytes}
 use Rattle.chunk_format.specs.declared.chunk.Chunk.{Chunk}
 use Rattle.chunk_format.specs.Logs.{IsLog, end_of}
-use Rattle.command_data.specs.declared.item.Tagged.{Tagged}
-use Rattle.script_text.specs.declared.script.ScriptLine.{ScriptLine}
 use Rattle.script_text.specs.declared.script.ScriptLine.TheVariants as script
 use Rattle.script_text.specs.declared.output.OutputLine.{OutputLine}
 use Rattle.script_text.specs.declared.output.OutputLine.TheVariants as output
@@ -14,9 +12,8 @@ use Rattle.script_text.specs.declared.output.Ending.TheVariants.{PeerEnded}
 use Rattle.command_all.specs.declared.command.Command.{Command}
 use Rattle.list_machine.specs.Items.{items_in, Rises}
 use Rattle.list_machine.specs.Machines.{Machine, empty_machine}
-use Rattle.list_machine.specs.Lines.{IsQuiet}
 use Rattle.list_machine.specs.Steps.{Event, read, made, committed, sent, handled, ended, told, MachineRun}
-use Rattle.list_machine.specs.Transcripts.{lines_read, CommitLines, holds_to, MostHold, NextReads, InspectsKept}
+use Rattle.list_machine.specs.Transcripts.{CommitLines, holds_to, MostHold, NextReads, InspectsKept}
 use Rattle.list_machine.specs.Waits.{Parts, LinesWait, InspectsItsList, HasNoRun, log_to, inspected_as}
 use Rattle.list_machine.specs.Examples.{s_name, p_name, item, chunk_of, opening, a_stream_made, a_declaration, a_confirm, a_delivery, the_worked_run}
 use Rattle.list_machine.specs.Laws.{IsNotOf}

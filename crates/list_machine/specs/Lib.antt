@@ -21,3 +21,4 @@ pub mod Waits
 pub mod Written
 pub mod ServerExample
 pub mod TranscriptExample
+pub mod Given

@@ -6,9 +6,9 @@ use Rattle.script_text.specs.declared.output.OutputLine.{OutputLine}
 use Rattle.script_text.specs.declared.output.OutputLine.TheVariants as output
 use Rattle.list_machine.specs.Lines.{IsQuiet}
 use Rattle.list_machine.specs.Machines.{Machine, empty_machine}
-use Rattle.list_machine.specs.Steps.{Event, read, committed, told, MachineRun}
+use Rattle.list_machine.specs.Steps.{Event, read, told, MachineRun}
 use Rattle.list_machine.specs.Transcripts.{CommitLines}
-use Rattle.list_machine.specs.Examples.{opening, a_stream_made}
+use Rattle.list_machine.specs.Examples.{a_stream_made}
 
 -- some events of a run, and those behind them
 pub record Parts (old : Machine) (before behind : List Event) (new : Machine) : Type 0 where

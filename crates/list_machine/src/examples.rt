@@ -85,8 +85,8 @@ pub fn wrong_rows_have_no_run()
     ensures passing { HasNoRun (published_run (item 1 97 ∷ item 2 98 ∷ []) ++ committed 1 (chunk_of 1 1 (item 2 98)) ∷ []) }
 {}
 
-/// The same for the confirm of an item before its commit, twice, of no declaration, or above the greatest id. It does
-/// nothing.
+/// No run of the machine with nothing goes on so by the confirm of an item before its commit, twice, of no declaration, or
+/// above the greatest id. It does nothing.
 pub fn wrong_confirms_have_no_run()
     ensures early { HasNoRun (published_run (item 1 97 ∷ []) ++ sent 1 (confirms_ids 7 (1 ∷ [])) ∷ []) }
     ensures twice { HasNoRun (committed_run (item 1 97 ∷ []) ++ sent 1 (confirms_ids 7 (1 ∷ [])) ∷ sent 1 (confirms_ids 7 (1 ∷ [])) ∷ []) }
@@ -94,8 +94,8 @@ pub fn wrong_confirms_have_no_run()
     ensures above { HasNoRun (committed_run (item 1 97 ∷ item 5 101 ∷ []) ++ sent 1 (confirms_ids 7 (1 ∷ 5 ∷ [])) ∷ []) }
 {}
 
-/// The same for the delivery of a chunk without a credit, out of order, past a gap, that stores an offset, or to a consumer
-/// that waits. It does nothing.
+/// No run of the machine with nothing goes on so by the delivery of a chunk without a credit, out of order, past a gap, that
+/// stores an offset, or to a consumer that waits. It does nothing.
 pub fn wrong_deliveries_have_no_run()
     ensures uncredited { HasNoRun (three_run ++ (a_subscription 0 None ++ sent 1 (delivery first_chunk) ∷ [])) }
     ensures out_of_order { HasNoRun (three_run ++ (a_subscription 3 None ++ sent 1 (delivery second_chunk) ∷ [])) }
@@ -104,13 +104,15 @@ pub fn wrong_deliveries_have_no_run()
     ensures to_waiting { HasNoRun (three_run ++ (a_subscription 3 (Some of_group) ++ sent 1 (delivery first_chunk) ∷ [])) }
 {}
 
-/// The same for an answer that is owed to nobody, and for one that was written already. It does nothing.
+/// No run of the machine with nothing goes on so by an answer that is owed to nobody, or by one that was written already. It
+/// does nothing.
 pub fn wrong_answers_have_no_run()
     ensures not_owed { HasNoRun (a_stream_made ++ read (Connect 1) ∷ sent 1 is_declared ∷ []) }
     ensures twice { HasNoRun (a_stream_made ++ (a_declaration ++ sent 1 is_declared ∷ [])) }
 {}
 
-/// What goes before these wrong events is a run, so each is refused for itself. It does nothing.
+/// What goes before the wrong events of `wrong_rows_have_no_run`, `wrong_confirms_have_no_run` and
+/// `wrong_deliveries_have_no_run` is a run, so each is refused for itself. It does nothing.
 pub fn runs_before_wrong_events_stand()
     ensures published { HasRun (published_run (item 1 97 ∷ item 2 98 ∷ [])) }
     ensures confirmed { HasRun (committed_run (item 1 97 ∷ []) ++ sent 1 (confirms_ids 7 (1 ∷ [])) ∷ []) }

@@ -7,6 +7,8 @@ ghost use Rattle.command_data.specs.declared.item.Tagged.{Tagged};
 ghost use Rattle.chunk_format.specs.declared.chunk.Chunk.{Chunk};
 ghost use Rattle.chunk_format.specs.declared.chunk.Header.{Header};
 ghost use Rattle.script_text.specs.declared.output.Ending.{Ending};
+ghost use Rattle.list_machine.specs.Items.{items_in};
+ghost use Rattle.list_machine.specs.Given.{WereGiven, WasGiven};
 ghost use Rattle.list_machine.specs.Commits.{CommitStep};
 ghost use Rattle.list_machine.specs.Streams.{Stream, Subscription, no_stream};
 ghost use Rattle.list_machine.specs.Moves.{Move, StreamRun};
@@ -30,6 +32,13 @@ pub fn lists_only_grow()
 /// was confirmed. It does nothing.
 pub fn rows_are_right()
     ensures { (events : List Event) (new : Machine) (number : ℕ) → MachineRun empty_machine events new → RowsRight (new.streams number) }
+{}
+
+/// What a declaration sent was given in Publish commands of its connection and id, which were handled; so each item that
+/// commit lines have under a name was given so. It does nothing.
+pub fn items_were_given()
+    ensures sent { (events : List Event) (new : Machine) (number : ℕ) → MachineRun empty_machine events new → AllByRecursion (WereGiven events) (new.streams number).declarations }
+    ensures committed { (name : List ℕ) (events : List Event) (new : Machine) (number : ℕ) → MachineRun empty_machine events new → AllByRecursion (WasGiven events) (items_in name (CommitLines number events)) }
 {}
 
 /// What each stream did along a run is a run of moves from a stream not made. Where it is disciplined for a name, the items

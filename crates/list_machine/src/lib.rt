@@ -17,7 +17,7 @@ pub use examples::{
 pub use joining::{handed_out_is_confirmed, moves_are_commits};
 pub use laws::{
     answers_are_written_once, commit_lines_are_commits, confirmed_stand_once, deliveries_are_runs,
-    inspections_look_at_the_list, lines_wait_for_answers, lists_only_grow,
+    inspections_look_at_the_list, items_were_given, lines_wait_for_answers, lists_only_grow,
     nothing_comes_behind_the_end, rows_are_right, unasked_frames_are_steps,
 };
 pub use server::{a_server_at_work, a_server_commits, a_server_confirms};
