@@ -5,3 +5,7 @@ pub mod Lists
 pub mod Ahead
 pub mod Running
 pub mod Begins
+pub mod Streams
+pub mod Moves
+pub mod Deliveries
+pub mod Parting

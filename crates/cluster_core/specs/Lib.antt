@@ -1,2 +1,5 @@
 pub mod Parts
 pub mod Up
+pub mod States
+pub mod Kept
+pub mod Fronts

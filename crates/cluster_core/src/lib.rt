@@ -1,13 +1,22 @@
-//! Parts of a stream over its members: messages by their numbers, the committed list, and the epoch that runs.
+//! A stream over its members, in parts: messages by their numbers, the committed list, the epoch that runs, and what
+//! events do to a stream of which the reigns aren't kept.
 #![tactic(auto)]
 
+mod agree;
 mod committed;
+mod event_laws;
 mod laws;
 mod mail;
+mod outcome;
 
+pub use agree::diverged_at;
 pub use committed::commit;
+pub use event_laws::{
+    events_are_steps, openings_are_streams, steps_keep_what_holds, what_was_shared_is_enough,
+};
 pub use laws::{
     electors_are_told_to_follow, messages_are_found_by_number, the_running_epoch,
     what_is_committed_stands_ahead,
 };
 pub use mail::{Numbered, mark, place_of, post, post_did, post_follows, post_one};
+pub use outcome::Outcome;

@@ -32,9 +32,11 @@ pub fn place_of(mail: &[Numbered], number: u64) -> Option<usize>
 
 /// Marks a message as delivered.
 #[tactic(auto, using(crate::proofs::Letters::set_delivered))]
-pub fn mark(mail: &mut [Numbered], place: usize)
-    requires { place < length mail.old }
-    ensures { mail.new ≡ delivered_at place mail.old }
+pub fn mark(mail: &mut Vec<Numbered>, place: usize)
+    requires { place < length mail.old.items }
+    ensures items { mail.new.items ≡ delivered_at place mail.old.items }
+    ensures len { vec_len mail.new ≡ vec_len mail.old }
+    ensures capacity { vec_capacity mail.new ≡ vec_capacity mail.old }
 {
     mail[place].delivered = true;
 }
