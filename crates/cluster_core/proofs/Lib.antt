@@ -9,3 +9,6 @@ pub mod Streams
 pub mod Moves
 pub mod Deliveries
 pub mod Parting
+pub mod Breaking
+pub mod Seeing
+pub mod Grouping

@@ -3,3 +3,5 @@ pub mod Up
 pub mod States
 pub mod Kept
 pub mod Fronts
+pub mod Breaks
+pub mod Seen

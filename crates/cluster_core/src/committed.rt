@@ -10,7 +10,7 @@ ghost use Rattle.cluster_core.specs.Parts.{ends_behind, extended};
 use chunk_format::Stored;
 
 /// The offset behind a chunk.
-fn chunk_end(chunk: &Stored) -> u64
+pub(crate) fn chunk_end(chunk: &Stored) -> u64
     ensures { result ≡ end_of_chunk chunk.now }
 {
     let header = chunk.header();

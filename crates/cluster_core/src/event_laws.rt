@@ -12,6 +12,10 @@ ghost use Rattle.replication_laws.specs.Events.{took, to_coordinator};
 ghost use Rattle.replication_laws.specs.Openings.{Start, start_at, opened_cluster, CanStart};
 ghost use Rattle.replication_laws.specs.Soundness.{Kept, IsSound, StaysKept};
 ghost use Rattle.replication_laws.specs.Properties.{SoundWith};
+ghost use Rattle.stream_terms.specs.declared.terms.Given.{Given};
+ghost use Rattle.stream_terms.specs.declared.terms.Waits.{Waits};
+ghost use Rattle.stream_terms.specs.Steps.{MoveStep};
+ghost use Rattle.cluster_core.specs.Seen.{seen, seen_after};
 ghost use Rattle.cluster_core.specs.declared.mail.Numbered.{Numbered};
 ghost use Rattle.cluster_core.specs.declared.outcome.Outcome.{Outcome};
 ghost use Rattle.cluster_core.specs.declared.outcome.Outcome.TheVariants.{Did};
@@ -55,4 +59,10 @@ pub fn what_was_shared_is_enough()
 /// A stream that is opened over logs that pass the tests is sound, with no reigns. It does nothing.
 pub fn openings_are_streams()
     ensures { (epoch : ℕ) (starts : List Start) → length starts ≤ 7 → CanStart epoch starts → ((i : ℕ) → i < length starts → Truthful (start_at starts i).log) → IsStream (opened_cluster epoch starts) }
+{}
+
+/// What a stream does by itself is a move for those that use it: the list goes on, by what was queued while one epoch runs;
+/// what it reaches is ready, and of the rest what is of the running epoch waits on. It does nothing.
+pub fn steps_are_moves()
+    ensures { (now number : ℕ) (w w' : ClusterState) (more : List Chunk) (passes : List Given) (waiting ready : List Waits) → IsStream w → Happened now w w' → w'.committed ≡ w.committed ++ more → MoveStep (seen number w passes waiting ready) more (seen_after number w' passes waiting ready) }
 {}

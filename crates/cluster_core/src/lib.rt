@@ -1,5 +1,5 @@
-//! A stream over its members, in parts: messages by their numbers, the committed list, the epoch that runs, and what
-//! events do to a stream of which the reigns aren't kept.
+//! A stream over its members, in parts: messages by their numbers, the committed list, the epoch that runs, what events do
+//! to a stream of which the reigns are not kept, and the tests of the logs over which it is opened.
 #![tactic(auto)]
 
 mod agree;
@@ -8,11 +8,13 @@ mod event_laws;
 mod laws;
 mod mail;
 mod outcome;
+mod whole;
 
 pub use agree::diverged_at;
 pub use committed::commit;
 pub use event_laws::{
-    events_are_steps, openings_are_streams, steps_keep_what_holds, what_was_shared_is_enough,
+    events_are_steps, openings_are_streams, steps_are_moves, steps_keep_what_holds,
+    what_was_shared_is_enough,
 };
 pub use laws::{
     electors_are_told_to_follow, messages_are_found_by_number, the_running_epoch,
@@ -20,3 +22,4 @@ pub use laws::{
 };
 pub use mail::{Numbered, mark, place_of, post, post_did, post_follows, post_one};
 pub use outcome::Outcome;
+pub use whole::broken_at;
