@@ -181,11 +181,6 @@ leads_prepare s m new stands step =
     (moves_of_one m s no_connection r.1 step.moves (declares 1 0 None ∷ []) stands r.2.0 r.3) (λ u run. run.2 ∙ run.1.is)
     (λ n. ap (λ (x : Machine). x.connections n) r.4 ∙ new_link m s no_connection fresh fresh stands refl n)
 
-pub leads_connect : (s : Stream) → Leads s no_connection (read (script.Connect 1)) s fresh
-leads_connect s m new stands step =
-    let r = step.does.reads in
-    stands_still m new s no_connection fresh (read (script.Connect 1)) stands step r.1 (λ n. ap (λ (x : Machine). x.connections n) r.2 ∙ new_link m s no_connection fresh fresh stands refl n)
-
 -- the one way in which a fresh connection takes the frame of a command
 gives_one : (c : Command) (k new : Connection) → k ≡ fresh → IsCommand command_table c → length (body_of command_table c) ≤ frame_max → Reading frame_max (frame_of c) (c ∷ []) [] Partial
     → Gives k.phase k (frame_of c) new → new ≡ connection_of (c ∷ []) []

@@ -21,3 +21,4 @@ pub mod ServerWorked
 pub mod TranscriptWorked
 pub mod Prefixes
 pub mod Giving
+pub mod Session

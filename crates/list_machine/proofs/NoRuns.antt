@@ -75,10 +75,6 @@ comes_three events new is run =
     let two = comes_by (leads_commit (published_stream (opening ∷ first_chunk ∷ []) (frame_waits three_items)) fresh second_chunk) one in
     comes_by (leads_commit (published_stream (opening ∷ first_chunk ∷ second_chunk ∷ []) (frame_waits three_items)) fresh third_chunk) two
 
--- the stream with subscription 3, which starts at the first offset
-abbrev subscribed_to : Stream → ℕ → Option (List Property) → Stream
-subscribed_to s credit properties = read_by s (new_subscription 1 3 (group_of properties) 0 credit)
-
 pub record IsSubscribe (credit : ℕ) (properties : Option (List Property)) : Type 0 where
   pub is : IsCommand command_table (subscribes credit properties)
   pub short : length (body_of command_table (subscribes credit properties)) ≤ frame_max
@@ -156,14 +152,14 @@ no_run_past_gap new run =
     let read_one = comes_by (leads_deliver three_stream r first_chunk refl) (comes_reading 3 (sent 1 (delivery first_chunk) ∷ sent 1 (delivery third_chunk) ∷ []) new (omega arith) run) in
     no_run (other_next three_stream (with_delivery r first_chunk) third_chunk second_chunk refl (λ e. absurd (omega (arith, e)))) read_one
 
-pub subscribe_of_group : IsSubscribe 3 (Some of_group)
+pub subscribe_of_group : (credit : ℕ) → credit < 100 → IsSubscribe credit (Some of_group)
 unfolding u8_bytes u16_bytes u32_bytes u64_bytes
-subscribe_of_group = record { is = (tt, (omega arith, (omega arith, (omega arith, (tt, (omega arith, search (rules))))))); short = omega arith }
+subscribe_of_group credit few = record { is = (tt, (omega arith, (omega arith, (omega arith, (tt, (omega (arith, few), search (rules))))))); short = omega arith }
 
 pub no_run_to_waiting : HasNoRun (three_run ++ (a_subscription 3 (Some of_group) ++ sent 1 (delivery first_chunk) ∷ []))
 no_run_to_waiting new run =
     no_run (to_waiting three_stream (new_subscription 1 3 (group_of (Some of_group)) 0 3) first_chunk refl)
-    (comes_subscribed three_stream 3 (Some of_group) (sent 1 (delivery first_chunk) ∷ []) new subscribe_of_group (comes_three (a_subscription 3 (Some of_group) ++ sent 1 (delivery first_chunk) ∷ []) new frame_three run))
+    (comes_subscribed three_stream 3 (Some of_group) (sent 1 (delivery first_chunk) ∷ []) new (subscribe_of_group 3 (omega arith)) (comes_three (a_subscription 3 (Some of_group) ++ sent 1 (delivery first_chunk) ∷ []) new frame_three run))
 
 pub is_store : IsCommand command_table stores_one
 is_store = (tt, (omega arith, (omega arith, omega arith)))

@@ -122,7 +122,7 @@ five_there =
     (machine_of (published_stream (opening ∷ first_chunk ∷ []) (frame_waits (item 1 97 ∷ item 5 101 ∷ []))) fresh idle) (published_there (item 1 97 ∷ item 5 101 ∷ []) frame_one_five)
     (_, commit_step _ _ fresh first_chunk five_commit, refl)
 
-three_there : MachineRun empty_machine three_run (machine_of three_stream fresh idle)
+pub three_there : MachineRun empty_machine three_run (machine_of three_stream fresh idle)
 three_there =
     run_on (published_run three_items) (committed 1 first_chunk ∷ committed 1 second_chunk ∷ committed 1 third_chunk ∷ []) empty_machine (machine_of (published_stream (opening ∷ []) (frame_waits three_items)) fresh idle)
     (machine_of three_stream fresh idle) (published_there three_items frame_three)
@@ -130,7 +130,7 @@ three_there =
 
 -- ---- subscriptions
 
-nobody_reads : (s : Stream) (b : Bool) → s.subscriptions ≡ [] → AllByRecursion (λ (r : Subscription). r.connection ≡ 1 → r.id ≡ 3 → ⊥) (cond b s no_stream).subscriptions
+pub nobody_reads : (s : Stream) (b : Bool) → s.subscriptions ≡ [] → AllByRecursion (λ (r : Subscription). r.connection ≡ 1 → r.id ≡ 3 → ⊥) (cond b s no_stream).subscriptions
 nobody_reads s true none = subst (AllByRecursion (λ (r : Subscription). r.connection ≡ 1 → r.id ≡ 3 → ⊥)) (sym none) tt
 nobody_reads s false none = tt
 
@@ -168,7 +168,7 @@ uncredited_there =
 pub waiting_there : MachineRun empty_machine (three_run ++ a_subscription 3 (Some of_group)) (machine_of (joined three_stream (group_of (Some of_group)) 3) fresh idle)
 waiting_there =
     run_on three_run (a_subscription 3 (Some of_group)) empty_machine (machine_of three_stream fresh idle) (machine_of (joined three_stream (group_of (Some of_group)) 3) fresh idle) three_there
-    (subscribed_run three_stream 3 (Some of_group) refl refl refl subscribe_of_group)
+    (subscribed_run three_stream 3 (Some of_group) refl refl refl (subscribe_of_group 3 (omega arith)))
 
 first_delivery : MachineStep (machine_of (joined three_stream None 3) fresh idle) (sent 1 (delivery first_chunk)) (machine_of (read_by three_stream (with_delivery (new_subscription 1 3 None 0 3) first_chunk)) fresh idle)
 first_delivery =

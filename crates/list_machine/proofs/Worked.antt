@@ -88,7 +88,7 @@ same_step s t k d e event moves does runs = record {
   moment = refl;
 }
 
-quiet_of : (s : Stream) (k : Connection) (d : Doing) → IsAnswered k.phase k → ((name : List ℕ) → d ≡ making name → ⊥) → IsQuiet (machine_of s k d)
+pub quiet_of : (s : Stream) (k : Connection) (d : Doing) → IsAnswered k.phase k → ((name : List ℕ) → d ≡ making name → ⊥) → IsQuiet (machine_of s k d)
 quiet_of s k d answered idle_now = record { connections = λ n. go (n == 1); made = idle_now }
   where
     go : (b : Bool) → IsAnswered (cond b k no_connection).phase (cond b k no_connection)

@@ -22,3 +22,4 @@ pub mod Written
 pub mod ServerExample
 pub mod TranscriptExample
 pub mod Given
+pub mod SessionExample

@@ -13,16 +13,19 @@ ghost use Rattle.list_machine.specs.Streams.{waiting, active, Stream};
 ghost use Rattle.list_machine.specs.Machines.{fresh, idle};
 ghost use Rattle.list_machine.specs.Steps.{read, committed, sent, handled, ended};
 ghost use Rattle.list_machine.specs.Examples.{HasRun, a_stream_made, a_declaration, the_worked_run, a_frame_too_large, a_change_in_doubt, item, chunk_of, opening, stored_chunk, machine_of, reader, is_declared, delivery};
+ghost use Rattle.list_machine.specs.SessionExample.{a_session};
 ghost use Rattle.list_machine.specs.TranscriptExample.{a_script, its_output};
 ghost use Rattle.list_machine.specs.Wrongs.{HasNoStep, published, subscribed, one_waits, two_wait, two_then_one, one_confirmed, five_waits, first_chunk, second_chunk, third_chunk, later_opening, confirms_ids, ended_connection, published_run, committed_run, three_run, stored_run, of_group, a_subscription};
 
 /// Written out: a stream is made and opens, a publisher is declared, its item is committed and confirmed, a subscription
 /// gets it, all stops, and another epoch opens; a size too large closes its connection; a name is refused, and a stream is
-/// found that was in doubt. It does nothing.
+/// found that was in doubt; and a session with a single active consumer in version 2 of Deliver, credits, questions, a
+/// refused frame, ends of both, and all else that is sent unasked. It does nothing.
 pub fn worked_runs_stand()
     ensures worked { HasRun the_worked_run }
     ensures large { HasRun (a_stream_made ++ a_frame_too_large) }
     ensures doubted { HasRun (a_stream_made ++ a_change_in_doubt) }
+    ensures session { HasRun a_session }
 {}
 
 /// Not committed are a chunk out of its place, twice, or of a lower epoch; and a row that nobody sent, that passes an

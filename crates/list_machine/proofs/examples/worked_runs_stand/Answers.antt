@@ -1,4 +1,5 @@
 use Rattle.list_machine.proofs.Worked.{worked, large, doubted}
+use Rattle.list_machine.proofs.Session.{session_run}
 use Rattle.list_machine.proofs.examples.worked_runs_stand.Goals as goal
 
 pub returns-clause-worked : goal.returns-clause-worked
@@ -9,3 +10,6 @@ returns-clause-large c = (_, large)
 
 pub returns-clause-doubted : goal.returns-clause-doubted
 returns-clause-doubted c = (_, doubted)
+
+pub returns-clause-session : goal.returns-clause-session
+returns-clause-session c = (_, session_run)
