@@ -1,0 +1,15 @@
+//! A client of one stream, under one name, without its connection: what it keeps, and what is done to it. Definitions of its
+//! steps stand in `client_terms`.
+#![tactic(auto)]
+
+mod client;
+mod client_core;
+mod due;
+mod outbox;
+mod queue;
+
+pub use client_core::ClientCore;
+pub use client_terms::{EnqueueFault, Received};
+pub use due::Due;
+pub use outbox::Outbox;
+pub use queue::Queue;
