@@ -10,13 +10,13 @@ use Rattle.epoch_coordinator.specs.declared.coordinator.StoppedDid.TheVariants a
 use Rattle.epoch_coordinator.specs.Coordinators.{CoordinatorState, Hears, stopped}
 use Rattle.epoch_coordinator.specs.Scripts.{opened}
 use Rattle.replication_laws.specs.Cluster.{ClusterState, Reign, member, letter_in, marked, last_number}
-use Rattle.replication_laws.specs.Events.{Elect, Deliver, Lose, Forget, Nudge, Done, Stop, Reopen, Happens, IsUp, IsFree, MayBegin, comes, to_coordinator, heard_by, reigns_after, performed, begins, goes_down}
+use Rattle.replication_laws.specs.Events.{Elect, Deliver, Lose, Forget, Nudge, Done, Stop, Reopen, Happens, Takes, OfferStep, IsUp, IsFree, MayBegin, comes, to_coordinator, heard_by, reigns_after, performed, begins, goes_down}
 use Rattle.replication_laws.specs.Openings.{Start, start_at, start_seats, opened_cluster, CanStart}
 use Rattle.replication_laws.specs.Soundness.{Kept, IsSound, StaysKept}
 use Rattle.replication_laws.specs.Properties.{SoundWith}
 use Rattle.replication_laws.proofs.Joined.{step_kept, step_grows}
-use Rattle.replication_laws.proofs.Properties.{event_with, with_sound}
-use Rattle.replication_laws.proofs.Snapshots.{truthful_property, rises_property}
+use Rattle.replication_laws.proofs.Properties.{event_with, step_with, with_sound}
+use Rattle.replication_laws.proofs.Snapshots.{truthful_property, truthful_offers, rises_property}
 use Rattle.replication_laws.proofs.Starts.{start_has}
 use Rattle.cluster_core.specs.declared.outcome.Outcome.{Outcome}
 use Rattle.cluster_core.specs.declared.outcome.Outcome.TheVariants.{Did, Nothing, Later, Last, Differs, Memory}
@@ -273,4 +273,16 @@ opened_stream epoch starts few can each =
       opened = epoch;
       reigns = [];
       sound = start_has Truthful epoch starts truthful_property can each;
+    }
+
+pub offer_keeps : (now : ℕ) (w w' : ClusterState) → IsStream w → length w'.seats ≡ length w.seats → ((reigns : List Reign) → OfferStep now (reigned reigns w) (reigned reigns w')) → IsStream w'
+offer_keeps now w w' h same step =
+    let some = h.some in
+    let few = h.few in
+    record {
+      some = omega (arith, same, some);
+      few = omega (arith, same, few);
+      opened = h.opened;
+      reigns = h.reigns;
+      sound = step_with Truthful h.opened (reigned h.reigns w) (reigned h.reigns w') truthful_property truthful_offers h.sound (Takes now (step h.reigns));
     }

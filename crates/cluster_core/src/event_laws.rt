@@ -8,7 +8,7 @@ ghost use Rattle.epoch_coordinator.specs.declared.message.Sent.{Sent};
 ghost use Rattle.epoch_coordinator.specs.MemberSteps.{taken, finished};
 ghost use Rattle.epoch_coordinator.specs.Coordinators.{CoordinatorState};
 ghost use Rattle.replication_laws.specs.Cluster.{ClusterState, Seat, Letter, Reign, member, letter_in};
-ghost use Rattle.replication_laws.specs.Events.{took, to_coordinator};
+ghost use Rattle.replication_laws.specs.Events.{OfferStep, took, to_coordinator};
 ghost use Rattle.replication_laws.specs.Openings.{Start, start_at, opened_cluster, CanStart};
 ghost use Rattle.replication_laws.specs.Soundness.{Kept, IsSound, StaysKept};
 ghost use Rattle.replication_laws.specs.Properties.{SoundWith};
@@ -37,10 +37,11 @@ pub fn events_are_steps()
     ensures reopen { (now epoch : ℕ) (r : ReplicaState) → reopen_due epoch r.cluster ≡ Did → Goes now r (after_reopen epoch r) }
 {}
 
-/// What holds of a stream goes on to hold, whatever came of an event. Kept lists stay kept, the committed list only grows,
+/// What holds of a stream goes on to hold, whatever came of an event, and over each offer. Kept lists stay kept, the committed list only grows,
 /// and where ids rise in all logs they rise on. It does nothing.
 pub fn steps_keep_what_holds()
     ensures stream { (now : ℕ) (due result : Outcome) (old new after : ReplicaState) → Gives due result old new after → IsStream old.cluster → (due ≡ Did → Goes now old after) → IsStream new.cluster }
+    ensures offers { (now : ℕ) (w w' : ClusterState) → IsStream w → length w'.seats ≡ length w.seats → ((reigns : List Reign) → OfferStep now (reigned reigns w) (reigned reigns w')) → IsStream w' }
     ensures kept { (opened now : ℕ) (reigns : List Reign) (w w' : ClusterState) (list : List Chunk) → IsSound opened (reigned reigns w) → Happened now w w' → Kept (reigned reigns w) list → (more : List Reign) × StaysKept list (reigned (more ++ reigns) w') }
     ensures grows { (now : ℕ) (w w' : ClusterState) → IsStream w → Happened now w w' → GoesOn w.committed w'.committed }
     ensures rises { (opened now : ℕ) (reigns : List Reign) (w w' : ClusterState) → SoundWith RisesIn opened (reigned reigns w) → Happened now w w' → (more : List Reign) × SoundWith RisesIn opened (reigned (more ++ reigns) w') }
