@@ -1,7 +1,7 @@
 -- A stream goes on by the events of the laws, with some reigns.
 use Rattle.std.proofs.Common.{◌≡◌, ◌≤◌, ◌<◌, ◌+◌, ℕ, zero, suc, Bool, true, false, cond, not, ◌&&◌, ◌||◌, ◌==◌, List, [], ◌∷◌, ◌++◌, length, length-set, Option, Some, None, is_some, refl, sym, ap, subst, ◌∙◌, inl, inr, ◌⊎◌, arith}
 use Rattle.chunk_format.specs.declared.chunk.Chunk.{Chunk}
-use Rattle.chunk_format.specs.Logs.{GoesOn, Truthful, RisesIn}
+use Rattle.chunk_format.specs.Logs.{GoesOn, IsLog, Truthful, RisesIn}
 use Rattle.epoch_coordinator.specs.declared.message.Message.{Message}
 use Rattle.epoch_coordinator.specs.declared.message.Message.TheVariants as messages
 use Rattle.epoch_coordinator.specs.declared.message.Sent.{Sent}
@@ -9,15 +9,18 @@ use Rattle.epoch_coordinator.specs.declared.coordinator.StoppedDid.{StoppedDid}
 use Rattle.epoch_coordinator.specs.declared.coordinator.StoppedDid.TheVariants as did
 use Rattle.epoch_coordinator.specs.Coordinators.{CoordinatorState, Hears, stopped}
 use Rattle.epoch_coordinator.specs.Scripts.{opened}
-use Rattle.replication_laws.specs.Cluster.{ClusterState, Reign, member, letter_in, marked, last_number}
+use Rattle.replication_laws.specs.Cluster.{ClusterState, Reign, member, letter_in, marked, last_number, seat}
 use Rattle.replication_laws.specs.Events.{Elect, Deliver, Lose, Forget, Nudge, Done, Stop, Reopen, Happens, Takes, OfferStep, IsUp, IsFree, MayBegin, comes, to_coordinator, heard_by, reigns_after, performed, begins, goes_down}
 use Rattle.replication_laws.specs.Openings.{Start, start_at, start_seats, opened_cluster, CanStart}
 use Rattle.replication_laws.specs.Soundness.{Kept, IsSound, StaysKept}
 use Rattle.replication_laws.specs.Properties.{SoundWith}
 use Rattle.replication_laws.proofs.Joined.{step_kept, step_grows}
-use Rattle.replication_laws.proofs.Properties.{event_with, step_with, with_sound}
+use Rattle.replication_laws.proofs.Properties.{event_with, step_with, all_have, with_sound}
 use Rattle.replication_laws.proofs.Snapshots.{truthful_property, truthful_offers, rises_property}
 use Rattle.replication_laws.proofs.Starts.{start_has}
+use Rattle.replication_laws.proofs.Meetings.{majorities}
+use Rattle.replication_laws.proofs.Carry.{holds_log}
+use Rattle.chunk_format.proofs.BeginLaws.{log_front}
 use Rattle.cluster_core.specs.declared.outcome.Outcome.{Outcome}
 use Rattle.cluster_core.specs.declared.outcome.Outcome.TheVariants.{Did, Nothing, Later, Last, Differs, Memory}
 use Rattle.cluster_core.specs.Up.{is_up, has_job}
@@ -286,3 +289,14 @@ offer_keeps now w w' h same step =
       reigns = h.reigns;
       sound = step_with Truthful h.opened (reigned h.reigns w) (reigned h.reigns w') truthful_property truthful_offers h.sound (Takes now (step h.reigns));
     }
+
+pub committed_log : (w : ClusterState) → IsStream w → IsLog w.committed
+committed_log w h =
+    let s = h.sound.sound in
+    let c = s.committed in
+    let j = majorities (length w.seats) c.voters c.voters c.most c.most in
+    let log = (member w j.0).log in
+    log_front w.committed log (c.held j.0 j.1 log (holds_log h.sound.tree (reigned h.reigns w) j.0 (seat w j.0) (s.each_member j.0))) (s.each_member j.0).is_log
+
+pub committed_truthful : (w : ClusterState) → IsStream w → Truthful w.committed
+committed_truthful w h = (all_have Truthful h.opened (reigned h.reigns w) truthful_property h.sound).committed

@@ -2,7 +2,7 @@
 
 ghost use Rattle.std.specs.Prelude.{◌≡◌, ℕ, suc, ◌≤◌, ◌<◌, true, false, List, [], ◌++◌, length, Some};
 ghost use Rattle.chunk_format.specs.declared.chunk.Chunk.{Chunk};
-ghost use Rattle.chunk_format.specs.Logs.{GoesOn, Truthful, RisesIn};
+ghost use Rattle.chunk_format.specs.Logs.{GoesOn, IsLog, Truthful, RisesIn};
 ghost use Rattle.epoch_coordinator.specs.declared.message.Message.{Message};
 ghost use Rattle.epoch_coordinator.specs.declared.message.Sent.{Sent};
 ghost use Rattle.epoch_coordinator.specs.MemberSteps.{taken, finished};
@@ -66,4 +66,10 @@ pub fn openings_are_streams()
 /// what it reaches is ready, and of the rest what is of the running epoch waits on. It does nothing.
 pub fn steps_are_moves()
     ensures { (now number : ℕ) (w w' : ClusterState) (more : List Chunk) (passes : List Given) (waiting ready : List Waits) → IsStream w → Happened now w w' → w'.committed ≡ w.committed ++ more → MoveStep (seen number w passes waiting ready) more (seen_after number w' passes waiting ready) }
+{}
+
+/// The committed list is a log, and snapshots are truthful in it. It does nothing.
+pub fn the_committed_list_is_a_log()
+    ensures log { (w : ClusterState) → IsStream w → IsLog w.committed }
+    ensures truthful { (w : ClusterState) → IsStream w → Truthful w.committed }
 {}

@@ -14,7 +14,7 @@ pub use agree::diverged_at;
 pub use committed::commit;
 pub use event_laws::{
     events_are_steps, openings_are_streams, steps_are_moves, steps_keep_what_holds,
-    what_was_shared_is_enough,
+    the_committed_list_is_a_log, what_was_shared_is_enough,
 };
 pub use laws::{
     electors_are_told_to_follow, messages_are_found_by_number, the_running_epoch,
