@@ -1,2 +1,5 @@
 pub mod Declarations
+pub mod Joining
+pub mod Standing
+pub mod Parting
 pub mod Asking

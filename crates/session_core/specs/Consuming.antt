@@ -37,12 +37,15 @@ tells t w response = replies t (subscribe_reply w response)
 abbrev pub with_subscription : Wish → Subscription → Tables → Tables
 with_subscription w s t = put_slot w.id (Some s) (record t { streams = with_stream s.stream (name_of w.stream) t.streams })
 
+abbrev pub one_with : Wish → ℕ → ℕ → ℕ → Option ℕ → Subscription
+one_with w stream epoch next single = record { stream = stream; epoch = epoch; next = next; credit = w.credit; single = single; update = None }
+
 abbrev pub plain_one : Wish → ℕ → ℕ → ℕ → Subscription
-plain_one w stream epoch next = record { stream = stream; epoch = epoch; next = next; credit = w.credit; single = None; update = None }
+plain_one w stream epoch next = one_with w stream epoch next None
 
 -- it is started when it becomes active
 abbrev pub single_one : Wish → ℕ → ℕ → ℕ → Subscription
-single_one w stream epoch serial = record { stream = stream; epoch = epoch; next = 0; credit = w.credit; single = Some serial; update = None }
+single_one w stream epoch serial = one_with w stream epoch 0 (Some serial)
 
 abbrev pub started : Tables → Wish → ℕ → ℕ → Result ℕ AllocError → Program Outcome
 started t w stream epoch (Ok next) = tells (with_subscription w (plain_one w stream epoch next) t) w code.Ok

@@ -6,3 +6,4 @@ pub mod Streams
 pub mod Commands
 pub mod Living
 pub mod Feeding
+pub mod Joins

@@ -2,17 +2,21 @@
 #![tactic(auto)]
 
 mod consuming;
+mod laws;
 mod living;
 mod offsets;
 mod publishing;
 mod serving;
 mod streams;
+mod subscribing;
 
 pub use consuming::{Wish, add_credit, answer_update, take_update, unsubscribe};
+pub use laws::pieces_join;
 pub use living::{end, tick};
-pub use offsets::{query_offset, store_offset, stream_stats};
+pub use offsets::{query_offset, store_offset, stream_stats, take_offset};
 pub use publishing::{declare, delete_publisher, publish, query_sequence};
-pub use serving::{serve_admin, take_any};
+pub use serving::{serve, serve_admin, serve_data, take_any, take_data};
 pub use streams::{
     create, create_super, delete, delete_super, exchange_versions, metadata, partitions, route,
 };
+pub use subscribing::subscribe;

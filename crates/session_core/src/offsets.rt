@@ -3,7 +3,7 @@
 
 ghost use Rattle.std.specs.Prelude.{IfOk, OnOk};
 ghost use Rattle.hub_terms.specs.Programs.{Runs};
-ghost use Rattle.session_tables.specs.Opening.{says, silent};
+ghost use Rattle.session_tables.specs.Opening.{leaves, says, silent};
 ghost use Rattle.session_core.specs.Offsets.{store_row, query_row, stats_row};
 
 use crate::publishing::stream_of;
@@ -42,6 +42,22 @@ pub fn store_offset<H: Hub>(
             Err(OfferFault::Limit { what: _, most: _ }) => Ok(()),
         },
     }
+}
+
+/// StoreOffset, which has no reply.
+pub fn take_offset<H: Hub>(
+    tables: &mut Tables,
+    hub: &mut H,
+    reference: &Text,
+    stream: &Text,
+    offset: u64,
+    now: u64,
+) -> Result<Option<Reply>, AllocError>
+    ensures ok { IfOk result (λ reply. Runs H.meaning (store_row tables.old reference.now stream.now offset now) hub.old (leaves reply tables.new) hub.new) }
+    ensures later { H.meaning.seen.later hub.old hub.new }
+{
+    store_offset(tables, hub, reference, stream, offset, now)?;
+    Ok(None)
 }
 
 /// QueryOffset: the last offset that was kept under the reference.

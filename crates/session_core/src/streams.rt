@@ -122,17 +122,23 @@ fn found_code(found: Found) -> ResponseCode
     }
 }
 
+/// The reference of the one broker.
+const BROKER: u16 = 0;
+
+/// The reference of none.
+const NO_BROKER: u16 = 0xffff;
+
 /// The reference of the one broker, or that of none where no epoch runs.
 fn leader_of(found: Found) -> u16
     ensures { result ≡ leader_of found }
 {
     match found {
-        Found::Missing => 0xffff,
-        Found::Closed { stream: _ } => 0xffff,
+        Found::Missing => NO_BROKER,
+        Found::Closed { stream: _ } => NO_BROKER,
         Found::Running {
             stream: _,
             epoch: _,
-        } => 0,
+        } => BROKER,
     }
 }
 
