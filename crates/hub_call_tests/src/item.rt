@@ -14,8 +14,7 @@ use std::alloc::{AllocError, Global};
 fn entry(alloc: Global, records: u16) -> Result<Entry, AllocError>
     ensures { IfOk result (λ e. IsEntry e) }
 {
-    let mut body = Octets::copy(alloc, b"m")?;
-    body.cut(1);
+    let body = Octets::copy(alloc, b"m")?;
     if records == 1 {
         return Ok(Entry::Simple(body));
     }
