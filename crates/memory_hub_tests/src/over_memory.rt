@@ -2,6 +2,8 @@
 
 ghost use Rattle.std.specs.Prelude.{◌≤◌};
 
+use crate::row_tables::{PUBLISHING, SUBSCRIBING, TURNING};
+use crate::rows::{RowStep, new_tables, wrong_row};
 use hub_call_tests::answer::{DONE, FAILED, MEMORY, NONE};
 use hub_call_tests::tables::{
     CONFIRMS, ENDED, EPOCHS, GROUPS, GROUPS_OF_PARTITIONS, OFFERS, PASSES, READING, STALE_PASSES,
@@ -60,6 +62,8 @@ const SCRIPTS: [&[(Step, i64)]; 11] = [
     GROUPS_OF_PARTITIONS,
 ];
 
+const ROWS: [&[(RowStep, i64)]; 3] = [PUBLISHING, TURNING, SUBSCRIBING];
+
 const NO_MEMORY: (usize, i64) = (1_000, MEMORY);
 
 // What `wrong_at` tells of a new hub of at most so many live streams, of whose changes these fail.
@@ -68,6 +72,15 @@ fn wrong_of(alloc: Global, limit: u32, fails: &[u64], steps: &[(Step, i64)]) -> 
 {
     match MemoryHub::new(alloc, limit, fails) {
         Ok(mut hub) => wrong_at(alloc, &ByCalls, &mut hub, steps),
+        Err(_) => NO_MEMORY,
+    }
+}
+
+// What `wrong_row` tells of session 1 over a new hub.
+fn wrong_row_of(alloc: Global, rows: &[(RowStep, i64)]) -> (usize, i64) {
+    let mut tables = new_tables(alloc, 1);
+    match MemoryHub::new(alloc, 16, &[]) {
+        Ok(mut hub) => wrong_row(alloc, &ByCalls, &mut tables, &mut hub, rows),
         Err(_) => NO_MEMORY,
     }
 }
@@ -91,4 +104,11 @@ fn live_streams_have_a_limit(rt: HostRuntime) {
 #[test]
 fn listed_changes_fail(rt: HostRuntime) {
     assert_eq!(rt; wrong_of(rt.alloc(), 16, &[1, 3, 5, 7], FAILING), (0, 0));
+}
+
+#[test]
+fn rows_of_a_session_run(rt: HostRuntime) {
+    for at in 0..ROWS.len() {
+        assert_eq!(rt; wrong_row_of(rt.alloc(), ROWS[at]), (0, 0), "rows {at}");
+    }
 }
