@@ -10,4 +10,4 @@ mod word;
 pub use output::{Ending, MessageKind, OutputLine, outputs_have_one_reading, write_output};
 pub use output_line::read_output;
 pub use script::{LONGEST_LINE, LineFault, ScriptLine, lines_have_one_reading, read_line};
-pub use word::find_byte;
+pub use word::{find_byte, is_same, read_number};

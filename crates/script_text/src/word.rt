@@ -58,7 +58,7 @@ fn is_plain(word: &[u8]) -> bool
 }
 
 /// The number that a word spells in decimal digits, with no sign and no leading zero.
-pub(crate) fn read_number(word: &[u8]) -> Option<u64>
+pub fn read_number(word: &[u8]) -> Option<u64>
     ensures { MatchOption result ((n : ℕ) → n < 2 ^ 64 → word.now ≡ decimal n → ⊥) (λ n. (n < 2 ^ 64) × (word.now ≡ decimal n)) }
 {
     if !is_plain(word) {
@@ -71,7 +71,7 @@ pub(crate) fn read_number(word: &[u8]) -> Option<u64>
 }
 
 /// Whether two words are the same.
-pub(crate) fn is_same(one: &[u8], other: &[u8]) -> bool
+pub fn is_same(one: &[u8], other: &[u8]) -> bool
     ensures { IsTrue result ↔ (one.now ≡ other.now) }
 {
     one == other
