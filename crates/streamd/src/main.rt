@@ -6,27 +6,16 @@ mod run;
 mod words;
 
 use crate::files::NamedFile;
-use crate::run::{run, tell_usage};
-use frame_wire::{Octets, Row};
+use crate::run::run;
+use crate::words::usage_line;
+use frame_wire::Octets;
 use outside_io::{StdSink, StdSource};
-use std::alloc::{AllocError, Global};
+use program_words::{tell_usage, words_after_name};
 use std::env;
 use std::process::ExitCode;
 
 /// The status for want of memory.
 const MEMORY: u8 = 6;
-
-/// The words after the program's name.
-fn words_after_name(alloc: Global, args: env::Args) -> Result<Row<Octets>, AllocError> {
-    let mut words = Row::new(alloc);
-    for arg in args.skip(1) {
-        let word = Octets::copy(alloc, arg.as_bytes())?;
-        let Ok(()) = words.push(word) else {
-            return Err(AllocError);
-        };
-    }
-    Ok(words)
-}
 
 /// A word, or the empty one where there is none at this place.
 fn word_at(words: &[Octets], place: usize) -> &[u8] {
@@ -39,7 +28,7 @@ fn word_at(words: &[Octets], place: usize) -> &[u8] {
 fn main(rt: HostRuntime) -> ExitCode {
     let mut out = StdSink::new(rt.stdout());
     let Ok(args) = env::args(&rt) else {
-        return ExitCode::from(tell_usage(&mut out));
+        return ExitCode::from(tell_usage(&mut out, usage_line()));
     };
     let Ok(words) = words_after_name(rt.alloc(), args) else {
         return ExitCode::from(MEMORY);

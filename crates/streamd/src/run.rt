@@ -3,7 +3,7 @@
 ghost use Rattle.std.specs.Prelude.{◌≡◌, ◌⊎◌, ◌≤◌, ℕ, List, length, Some};
 ghost use Rattle.outside_io.specs.Causes.{Rose};
 ghost use Rattle.streamd.specs.Words.{IsReplay, IsInspect, IsReindex, AskNothing, usage};
-ghost use Rattle.streamd.specs.Run.{Wrote};
+ghost use Rattle.program_words.specs.Told.{Wrote};
 ghost use Rattle.osiris_audit.specs.Windows.{most_bytes as most_file_bytes};
 ghost use Rattle.osiris_audit.specs.Inspecting.{InspectsAs};
 ghost use Rattle.osiris_audit.specs.Indexing.{ReindexesAs};
@@ -15,20 +15,9 @@ use crate::words::{Words, read_words, usage_line};
 use frame_wire::{Limits, Octets};
 use osiris_audit::{inspect, reindex};
 use outside_io::{Sink, Source};
+use program_words::tell_usage;
 use replay_node::replay;
 use std::alloc::Global;
-
-/// The status of a program that was asked for nothing it does.
-const USAGE: u8 = 2;
-
-/// Writes the usage line, and answers 2, also where the write fails.
-pub fn tell_usage<K: Sink>(out: &mut K) -> u8
-    ensures status { result ≡ 2 }
-    ensures line { Wrote usage (K.written out.old) (K.written out.new) (K.faults out.old) (K.faults out.new) }
-{
-    let _gave = out.write_all(usage_line());
-    USAGE
-}
 
 /// Does what the words after the program's name ask for, and answers the program's status: that of `replay` over the input,
 /// of `inspect` over segment and index, of `reindex` over the segment, or 2 where the usage was written.
@@ -70,6 +59,6 @@ pub fn run<S: Source, A: Source, B: Source, K: Sink>(
         Words::Replay => replay(alloc, input, out, &Limits::standard()),
         Words::Inspect => inspect(alloc, segment, index, out),
         Words::Reindex => reindex(alloc, segment, out),
-        Words::Usage => tell_usage(out),
+        Words::Usage => tell_usage(out, usage_line()),
     }
 }

@@ -1,5 +1,5 @@
--- What a line leaves that the program writes.
-use Rattle.std.specs.Prelude.{◌≡◌, ℕ, List, take, Option, ◌⊎◌}
+-- What a line leaves that a program writes.
+use Rattle.std.specs.Prelude.{◌≡◌, ◌⊎◌, ℕ, List, take, Option}
 use Rattle.outside_io.specs.Known.{after_known}
 use Rattle.outside_io.specs.Causes.{Rose}
 
