@@ -1,3 +1,4 @@
 pub mod Outboxes
 pub mod Dues
 pub mod Cores
+pub mod Sends

@@ -38,6 +38,19 @@ impl Login {
     {
         Login { identity }
     }
+
+    pub fn user(&self) -> &[u8]
+        ensures is { result.now ≡ self.now.user }
+        ensures short { length self.now.user + length self.now.password ≤ 2147483645 }
+    {
+        self.identity.user.as_slice()
+    }
+
+    pub fn password(&self) -> &[u8]
+        ensures { result.now ≡ self.now.password }
+    {
+        self.identity.password.as_slice()
+    }
 }
 
 /// What a client keeps of its connection.

@@ -1,19 +1,22 @@
 //! A client without its connection.
 
-ghost use Rattle.std.specs.Prelude.{◌≡◌, ◌↔◌, ◌+◌, ◌^◌, ◌<◌, ◌≤◌, ◌++◌, length, Ok, Err, None, IsOk, OnOk, OnErr, IfOk};
+ghost use Rattle.std.specs.Prelude.{◌≡◌, ◌↔◌, ◌+◌, ◌^◌, ◌<◌, ◌≤◌, ◌++◌, length, Ok, Err, Option, None, IsOk, OnOk, OnErr, IfOk};
+ghost use Rattle.command_all.specs.declared.command.Command.{Command};
 ghost use Rattle.std.specs.Option.{option_to_list};
 ghost use Rattle.client_terms.specs.States.{last_id};
-ghost use Rattle.client_terms.specs.Steps.{enqueues, creates, queries, subscribes, connects, loses, takes, ClientStep};
+ghost use Rattle.client_terms.specs.Steps.{enqueues, creates, queries, subscribes, connects, loses, sends, takes, ClientStep};
 ghost use Rattle.client_terms.specs.declared.fault.EnqueueFault.TheVariants as faults;
 ghost use Rattle.command_reader.specs.States.{new_reader};
 ghost use Rattle.stream_client.specs.Cores.{new_core, frame_max};
+ghost use Rattle.stream_client.specs.Sends.{AreBytesOf};
 
 use crate::client::{Client, link, start, unlink, wish_create, wish_query, wish_subscribe};
+use crate::sending::send_next;
 use client_terms::{EnqueueFault, Received};
 use command_all::Identity;
 use command_fields::OffsetSpec;
 use command_reader::{CLIENT_FRAME_MAX, CommandReader};
-use frame_wire::Text;
+use frame_wire::{Octets, Text};
 use std::alloc::{AllocError, Global};
 use std::marker::Model;
 
@@ -115,6 +118,16 @@ impl ClientCore {
     {
         unlink(&mut self.client);
         self.reader = CommandReader::new(self.alloc, CLIENT_FRAME_MAX);
+    }
+
+    /// The next frame to send, or `None` exactly where nothing is to be sent before another frame comes. Want of memory
+    /// leaves all as it was.
+    pub fn next_frame(&mut self) -> Result<Option<Octets>, AllocError>
+        ensures step { IfOk result (λ bytes. (frame : Option Command) × AreBytesOf frame bytes × ClientStep self.old.client sends frame self.new.client) }
+        ensures reader { self.new.reader ≡ self.old.reader }
+        ensures err { OnErr result (self.new ≡ self.old) }
+    {
+        send_next(self.alloc, &mut self.client)
     }
 
     /// The greatest id so that all ids up to it are confirmed.

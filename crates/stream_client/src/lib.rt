@@ -2,11 +2,14 @@
 //! steps stand in `client_terms`.
 #![tactic(auto)]
 
+mod asking;
 mod client;
 mod client_core;
 mod due;
+mod frames;
 mod outbox;
 mod queue;
+mod sending;
 
 pub use client_core::ClientCore;
 pub use client_terms::{EnqueueFault, Received};
