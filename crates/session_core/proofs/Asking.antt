@@ -1,7 +1,7 @@
 -- Conversations of many questions, one for each item of a list.
 use Rattle.std.proofs.Common.{◌≡◌, ℕ, suc, ◌+◌, ◌<◌, ◌≤◌, List, [], ◌∷◌, ◌++◌, length, get_or, drop, Option, Some, None, refl, sym, ap, subst, ◌∙◌, arith}
 use Rattle.std.proofs.Math.Seq.{drop-cons}
-use Rattle.std.proofs.lemmas.List.{drop_all}
+use Rattle.std.proofs.lemmas.List.{drop_all, get_or_default}
 use Rattle.command_admin.specs.declared.item.StreamMetadata.{StreamMetadata}
 use Rattle.stream_terms.specs.Views.{name_of}
 use Rattle.hub_terms.specs.declared.terms.Found.{Found}
@@ -14,7 +14,7 @@ use Rattle.session_tables.specs.declared.tables.SessionEnd.TheVariants as ends
 use Rattle.session_tables.specs.declared.tables.Subscription.{Subscription}
 use Rattle.session_tables.specs.declared.tables.Tables.{Tables}
 use Rattle.session_core.specs.Streams.{metadata_of, metadata_from, metadata_row}
-use Rattle.session_core.specs.Living.{Left, ends_by, leaves_then, single_of, all_leave, link_ended_row}
+use Rattle.session_core.specs.Living.{Left, ends_by, leaves_then, single_of, all_leave}
 
 -- Behind the names before this place, a conversation over the others is one over all.
 abbrev pub AskedSo : {S : Type 0} → HubMeaning S → Tables → ℕ → List Words → ℕ → List StreamMetadata → S → S → Type 0
@@ -39,28 +39,31 @@ asked_all {S} m t corr names i told h0 h so le =
 -- ---- leaving groups
 
 -- Behind the places before this one, a conversation over the others is one over all.
-abbrev pub LeftSo : {S : Type 0} → HubMeaning S → Tables → ℕ → S → S → Type 0
-LeftSo {S} m t i h0 h = (got : Outcome) (new : S) → Runs m (all_leave t (drop i t.subscriptions)) h got new → Runs m (link_ended_row t) h0 got new
+abbrev pub LeftSo : {S : Type 0} → HubMeaning S → Tables → List (Option Subscription) → ℕ → S → S → Type 0
+LeftSo {S} m t slots i h0 h = (got : Outcome) (new : S) → Runs m (all_leave t (drop i slots)) h got new → Runs m (all_leave t slots) h0 got new
 
-pub left_none : {S : Type 0} (m : HubMeaning S) (t : Tables) (h : S) → LeftSo m t 0 h h
-left_none m t h got new run = run
+pub left_none : {S : Type 0} (m : HubMeaning S) (t : Tables) (slots : List (Option Subscription)) (h : S) → LeftSo m t slots 0 h h
+left_none m t slots h got new run = run
 
-one_left : {S : Type 0} (m : HubMeaning S) (t : Tables) (s : Option Subscription) (single : Option ℕ) (more : List (Option Subscription)) (h h1 : S) (got : Outcome) (new : S)
-    → single ≡ single_of s → Left m t single h h1 → Runs m (all_leave t more) h1 got new → Runs m (leaves_then t single (all_leave t more)) h got new
-one_left {S} m t s None more h h1 got new is left run = subst (λ (x : S). Runs m (all_leave t more) x got new) left run
-one_left m t s (Some serial) more h h1 got new is left run = (tt, h1, left, run)
+one_left : {S : Type 0} (m : HubMeaning S) (t : Tables) (single : Option ℕ) (more : List (Option Subscription)) (h h1 : S) (got : Outcome) (new : S)
+    → Left m t single h h1 → Runs m (all_leave t more) h1 got new → Runs m (leaves_then t single (all_leave t more)) h got new
+one_left {S} m t None more h h1 got new left run = subst (λ (x : S). Runs m (all_leave t more) x got new) left run
+one_left m t (Some serial) more h h1 got new left run = (tt, h1, left, run)
 
-pub left_more : {S : Type 0} (m : HubMeaning S) (t : Tables) (i : ℕ) (h0 h h1 : S) (s : Option Subscription) (single : Option ℕ)
-    → LeftSo m t i h0 h → i < length t.subscriptions → s ≡ get_or t.subscriptions i s → single ≡ single_of s → Left m t single h h1 → LeftSo m t (i + 1) h0 h1
-left_more {S} m t i h0 h h1 s single so lt is of left got new run =
+left_more : {S : Type 0} (m : HubMeaning S) (t : Tables) (slots : List (Option Subscription)) (i : ℕ) (h0 h h1 : S) (s : Option Subscription)
+    → LeftSo m t slots i h0 h → i < length slots → s ≡ get_or slots i s → Left m t (single_of s) h h1 → LeftSo m t slots (i + 1) h0 h1
+left_more {S} m t slots i h0 h h1 s so lt is left got new run =
     let next : suc i ≡ i + 1 = omega arith in
-    let slots = t.subscriptions in
     let ahead : drop i slots ≡ s ∷ drop (i + 1) slots = drop-cons slots i s lt ∙ ap (λ (x : Option Subscription). x ∷ drop (suc i) slots) (sym is) ∙ ap (λ (n : ℕ). s ∷ drop n slots) next in
-    let here = one_left m t s single (drop (i + 1) slots) h h1 got new of left run in
-    let there : Runs m (all_leave t (s ∷ drop (i + 1) slots)) h got new = subst (λ (x : Option ℕ). Runs m (leaves_then t x (all_leave t (drop (i + 1) slots))) h got new) of here in
-    so got new (subst (λ (xs : List (Option Subscription)). Runs m (all_leave t xs) h got new) (sym ahead) there)
+    let here = one_left m t (single_of s) (drop (i + 1) slots) h h1 got new left run in
+    so got new (subst (λ (xs : List (Option Subscription)). Runs m (all_leave t xs) h got new) (sym ahead) here)
 
-pub left_all : {S : Type 0} (m : HubMeaning S) (t : Tables) (i : ℕ) (h0 h : S)
-    → LeftSo m t i h0 h → length t.subscriptions ≤ i → Runs m (link_ended_row t) h0 (silent (ends_by ends.PeerEnded t)) h
-left_all {S} m t i h0 h so le =
-    so (silent (ends_by ends.PeerEnded t)) h (subst (λ (xs : List (Option Subscription)). Runs m (all_leave t xs) h (silent (ends_by ends.PeerEnded t)) h) (sym (drop_all i t.subscriptions le)) (refl, refl))
+-- the same, of what stands in a place, whatever stands for none
+pub left_slot : {S : Type 0} (m : HubMeaning S) (t : Tables) (slots : List (Option Subscription)) (i : ℕ) (h0 h h1 : S) (d : Option Subscription)
+    → LeftSo m t slots i h0 h → i < length slots → Left m t (single_of (get_or slots i d)) h h1 → LeftSo m t slots (i + 1) h0 h1
+left_slot m t slots i h0 h h1 d so lt left = left_more m t slots i h0 h h1 (get_or slots i d) so lt (get_or_default slots i d (get_or slots i d) lt) left
+
+pub left_all : {S : Type 0} (m : HubMeaning S) (t : Tables) (slots : List (Option Subscription)) (i : ℕ) (h0 h : S)
+    → LeftSo m t slots i h0 h → length slots ≤ i → Runs m (all_leave t slots) h0 (silent (ends_by ends.PeerEnded t)) h
+left_all {S} m t slots i h0 h so le =
+    so (silent (ends_by ends.PeerEnded t)) h (subst (λ (xs : List (Option Subscription)). Runs m (all_leave t xs) h (silent (ends_by ends.PeerEnded t)) h) (sym (drop_all i slots le)) (refl, refl))

@@ -3,3 +3,4 @@ pub mod Joining
 pub mod Standing
 pub mod Parting
 pub mod Asking
+pub mod Answering

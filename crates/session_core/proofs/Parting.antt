@@ -12,7 +12,7 @@ use Rattle.session_core.specs.Feeding.{CommandSteps, Answered, Closing, Fed, Par
 use Rattle.session_core.specs.Joins.{PiecesJoin}
 use Rattle.session_core.proofs.Standing.{closed_ends}
 
-steps_join : {S : Type 0} (m : HubMeaning S) (who : Identity) (now : ℕ) (cs ds : List Command) (old mid new : Tables) (first second : List Reply) (h0 h h1 : S)
+pub steps_join : {S : Type 0} (m : HubMeaning S) (who : Identity) (now : ℕ) (cs ds : List Command) (old mid new : Tables) (first second : List Reply) (h0 h h1 : S)
     → CommandSteps m who now old cs first mid h0 h → CommandSteps m who now mid ds second new h h1 → CommandSteps m who now old (cs ++ ds) (first ++ second) new h0 h1
 steps_join {S} m who now [] ds old mid new first second h0 h h1 one two =
     let a : CommandSteps m who now old ds second new h h1 = subst (λ (t : Tables). CommandSteps m who now t ds second new h h1) one.1 two in

@@ -54,6 +54,18 @@ pub data Fed {S : Type 0} (m : HubMeaning S) (who : Identity) (now max : ℕ) (b
   Unspelt : (fault : DecodeFault) → Closing m who now max bytes old code.UnknownFrame said new rest h0 h1 → BeginsUnspelt max rest fault → Fed m who now max bytes old said new rest h0 h1
   TooLarge : (size : ℕ) → Closing m who now max bytes old code.FrameTooLarge said new rest h0 h1 → IsTooLarge max rest size → Fed m who now max bytes old said new rest h0 h1
 
+-- a command is answered, and what is said goes behind what was there
+pub record AddsStep {S : Type 0} (m : HubMeaning S) (who : Identity) (now : ℕ) (old : Tables) (command : Command) (out0 out1 : List Reply) (new : Tables) (h0 h1 : S) : Type 0 where
+  pub reply : Option Reply
+  pub run : Runs m (command_row who old now command) h0 (leaves reply new) h1
+  pub wrote : out1 ≡ out0 ++ option_to_list reply
+
+-- the server closes the connection, and its Close goes behind what was there
+pub record AddsClose (response : ResponseCode) (old : Tables) (out0 out1 : List Reply) (new : Tables) : Type 0 where
+  pub reply : Reply
+  pub closes : says new reply ≡ closed response old
+  pub wrote : out1 ≡ out0 ++ reply ∷ []
+
 -- replies behind those that were there
 pub record Adds {S : Type 0} (m : HubMeaning S) (who : Identity) (now max : ℕ) (bytes : List ℕ) (old : Tables) (out0 out1 : List Reply) (new : Tables) (rest : List ℕ) (h0 h1 : S) : Type 0 where
   pub said : List Reply

@@ -2,6 +2,7 @@
 #![tactic(auto)]
 
 mod consuming;
+mod feeding;
 mod laws;
 mod living;
 mod offsets;
@@ -11,8 +12,9 @@ mod streams;
 mod subscribing;
 
 pub use consuming::{Wish, add_credit, answer_update, take_update, unsubscribe};
+pub use feeding::answer_all;
 pub use laws::pieces_join;
-pub use living::{end, tick};
+pub use living::{end, end_link, tick};
 pub use offsets::{query_offset, store_offset, stream_stats, take_offset};
 pub use publishing::{declare, delete_publisher, publish, query_sequence};
 pub use serving::{serve, serve_admin, serve_data, take_any, take_data};

@@ -38,7 +38,7 @@ fn refuses(publishers: &Publishers, id: u8, stream: u32, reference: &Text) -> bo
 }
 
 /// Keeps a publisher with its pass, and the name of its stream.
-fn keep(
+pub(crate) fn keep(
     tables: &mut Tables,
     id: u8,
     pass: Pass,
