@@ -1,16 +1,18 @@
 //! A client without its connection.
 
-ghost use Rattle.std.specs.Prelude.{◌≡◌, ◌↔◌, ◌+◌, ◌^◌, ◌<◌, ◌≤◌, ◌++◌, length, Ok, Err, Option, None, IsOk, OnOk, OnErr, IfOk};
+ghost use Rattle.std.specs.Prelude.{◌≡◌, ◌↔◌, ◌+◌, ◌^◌, ◌<◌, ◌≤◌, ◌++◌, length, Ok, Err, Option, None, IsTrue, IsOk, OnOk, OnErr, IfOk};
 ghost use Rattle.command_all.specs.declared.command.Command.{Command};
 ghost use Rattle.std.specs.Option.{option_to_list};
 ghost use Rattle.client_terms.specs.States.{last_id};
 ghost use Rattle.client_terms.specs.Steps.{enqueues, creates, queries, subscribes, connects, loses, sends, takes, ClientStep};
 ghost use Rattle.client_terms.specs.declared.fault.EnqueueFault.TheVariants as faults;
 ghost use Rattle.command_reader.specs.States.{new_reader};
-ghost use Rattle.stream_client.specs.Cores.{new_core, frame_max};
+ghost use Rattle.stream_client.specs.Cores.{new_core, frame_max, IsDone};
 ghost use Rattle.stream_client.specs.Sends.{AreBytesOf};
 
-use crate::client::{Client, link, start, unlink, wish_create, wish_query, wish_subscribe};
+use crate::client::{
+    Client, is_done, link, start, unlink, wish_create, wish_query, wish_subscribe,
+};
 use crate::sending::send_next;
 use client_terms::{EnqueueFault, Received};
 use command_all::Identity;
@@ -135,6 +137,13 @@ impl ClientCore {
         ensures { result ≡ self.now.client.confirmed }
     {
         self.client.outbox.confirmed()
+    }
+
+    /// Whether every wish was answered and every queued message is confirmed.
+    pub fn is_done(&self) -> bool
+        ensures { IsTrue result ↔ IsDone self.now.client }
+    {
+        is_done(&self.client)
     }
 
     /// The greatest id of the name, as the last answer to a query told it.
