@@ -15,14 +15,14 @@ fn same_bytes(one: &[u8], other: &[u8]) -> bool
 }
 
 /// Whether two chunks are the same: their bytes are.
-fn same_chunk(one: &Stored, other: &Stored) -> bool
+pub fn same_chunk(one: &Stored, other: &Stored) -> bool
     ensures { IsTrue result ↔ (one.now ≡ other.now) }
 {
     same_bytes(one.bytes(), other.bytes())
 }
 
 /// How many chunks two lists have in common at their fronts.
-fn common(one: &[Stored], other: &[Stored]) -> usize
+pub fn common(one: &[Stored], other: &[Stored]) -> usize
     ensures front { take result one.now ≡ take result other.now }
     ensures within { result ≤ length one.now }
     ensures within_other { result ≤ length other.now }

@@ -18,7 +18,7 @@ pub(crate) fn chunk_end(chunk: &Stored) -> u64
 }
 
 /// Where a list ends.
-fn list_end(list: &[Stored]) -> u64
+pub fn list_end(list: &[Stored]) -> u64
     ensures { result ≡ end_of list.now }
 {
     match list.split_last() {

@@ -10,8 +10,8 @@ mod mail;
 mod outcome;
 mod whole;
 
-pub use agree::diverged_at;
-pub use committed::commit;
+pub use agree::{common, diverged_at, same_chunk};
+pub use committed::{commit, list_end};
 pub use event_laws::{
     events_are_steps, openings_are_streams, steps_are_moves, steps_keep_what_holds,
     the_committed_list_is_a_log, what_was_shared_is_enough,

@@ -1,0 +1,10 @@
+pub mod Losses
+pub mod Takings
+pub mod Places
+pub mod Sendings
+pub mod Doings
+pub mod Coming
+pub mod Soundly
+pub mod Finds
+pub mod Opening
+pub mod Rising

@@ -1,0 +1,5 @@
+pub mod Seats
+pub mod Restarts
+pub mod Letters
+pub mod Happens
+pub mod Opens
