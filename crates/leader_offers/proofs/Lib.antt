@@ -1,0 +1,5 @@
+mod Lines
+mod Puts
+mod Runs
+mod Gives
+mod Spelled
