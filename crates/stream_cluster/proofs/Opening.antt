@@ -1,7 +1,7 @@
 -- The tests of an opening.
 use Rattle.std.proofs.Common.{◌≡◌, ◌≤◌, ◌<◌, ◌+◌, ◌-◌, ◌==◌, ℕ, Bool, true, false, zero, suc, List, [], ◌∷◌, ◌++◌, length, map, take, drop, slice_index_or, remove, add-one, length-append, length-drop, refl, sym, ap, subst, ◌∙◌, inl, inr, ◌⊎◌, arith}
 use Rattle.std.specs.Prelude.{IfSome, MatchOption, Option, Some, None}
-use Rattle.std.proofs.lemmas.List.{length-map, append_assoc}
+use Rattle.std.proofs.lemmas.List.{length-map, append_assoc, take_all}
 use Rattle.std.proofs.Math.Seq.{take-suc, drop-cons}
 use Rattle.replication_laws.specs.Openings.{Start, start_at, start_seats, no_start, CanStart, Agrees}
 use Rattle.replication_laws.specs.Openings as openings
@@ -18,6 +18,9 @@ use Rattle.chunk_format.specs.Logs.{IsLog, last_epoch}
 use Rattle.replication_laws.specs.Openings.{Diverges}
 use Rattle.cluster_core.specs.Breaks.{Breaks}
 use Rattle.stream_cluster.specs.Opens.{nothing_had, had_at, IsSoundLog, IsWhole, BreaksAt, AllWhole, FirstBroken, NotAhead, NoneAhead, FirstAhead, AgreesWith, AllAgreeWith, FirstApart, AllAgree, FirstDiverged, AreNumbered, MayOpen, started, start_of}
+use Rattle.stream_cluster.specs.Opens.{ApartBy, DivergedBy}
+use Rattle.stream_cluster.specs.declared.fault.OpenFault.{OpenFault}
+use Rattle.stream_cluster.specs.declared.fault.OpenFault.TheVariants.{Diverged, Broken, Ahead, Memory}
 use Rattle.stream_cluster.specs.Seats.{in_seat}
 
 -- what stands at a place is the same whatever stands where none is
@@ -203,6 +206,23 @@ module _ (starts : List Recovered) (place : ℕ) (one : Recovered) (lt : place <
         is_a = f.is_a ∙ ap (λ (x : Recovered). x.member) (sym one_at);
         is_b = f.is_b ∙ ap (λ (x : Recovered). x.member) there;
       }
+
+-- the places behind a place
+pub rest_is : (starts : List Recovered) (n : ℕ) → take (length starts - n) (drop n starts) ≡ drop n starts
+rest_is starts n = let c = length-drop n starts in take_all (length starts - n) (drop n starts) (omega (arith, c))
+
+pub pair_by : (starts : List Recovered) (place : ℕ) (one : Recovered) → place < length starts → one ≡ slice_index_or starts place one → (fault : OpenFault)
+    → AgreeBefore starts place → ApartBy one (take (length starts - (place + 1)) (drop (place + 1) starts)) fault → DivergedBy starts fault
+pair_by starts place one lt is (Diverged a b offset) before f =
+    first_pair starts place one lt is a b offset before (subst (λ (l : List Recovered). FirstApart one l a b offset) (rest_is starts (place + 1)) f)
+pair_by starts place one lt is (Broken member offset) before f = f
+pair_by starts place one lt is (Ahead member promise epoch) before f = f
+pair_by starts place one lt is Memory before f = f
+
+pub told : (o : Option ℕ) (place : ℕ) (chunks : List Chunk) → MatchOption o (Truthful chunks) (λ (k : ℕ). (k < length chunks) × Truthful (take k chunks) × (Truthful (take (k + 1) chunks) → ⊥)) → o ≡ Some place
+    → (place < length chunks) × Truthful (take place chunks) × (Truthful (take (place + 1) chunks) → ⊥)
+told None place chunks h e = absurd (cc e)
+told (Some k) place chunks h e = let same : k ≡ place = cc e in subst (λ (n : ℕ). (n < length chunks) × Truthful (take n chunks) × (Truthful (take (n + 1) chunks) → ⊥)) same h
 
 -- ---- members that come up
 

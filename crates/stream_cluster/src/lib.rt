@@ -11,10 +11,12 @@ mod found;
 mod hear;
 mod jobs;
 mod nudge;
+mod open;
 mod place;
 mod replicas;
 mod restart;
 mod share;
+mod whole;
 
 pub use cluster::Cluster;
 pub use event::Event;
