@@ -1,4 +1,2 @@
 pub mod Posting
 pub mod Fits
-pub mod Hearsay
-pub mod Arrivals

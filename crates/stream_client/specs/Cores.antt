@@ -1,5 +1,5 @@
 -- What a client holds, as the state of its steps.
-use Rattle.std.specs.Prelude.{◌≡◌, ℕ, ◌+◌, ◌≤◌, ◌<◌, List, length, Option, option_map}
+use Rattle.std.specs.Prelude.{◌≡◌, ℕ, ◌+◌, ◌≤◌, ◌<◌, List, [], length, Option, option_map}
 use Rattle.command_reader.specs.States.{ReaderState, new_reader}
 use Rattle.command_all.specs.declared.identity.Identity.{Identity}
 use Rattle.client_terms.specs.declared.terms.Request.{Request}
@@ -45,3 +45,9 @@ frame_max = 2097152
 
 abbrev pub new_core : Identity → Option (List ℕ) → Option (List ℕ) → ℕ → CoreState
 new_core identity stream name confirmed = record { client = started identity stream name confirmed; reader = new_reader frame_max }
+
+-- the wishes were answered, and the queued messages are confirmed
+pub record IsDone (s : ClientState) : Type 0 where
+  pub no_creates : s.creates ≡ 0
+  pub no_wishes : s.wishes ≡ []
+  pub no_messages : s.queue ≡ []

@@ -1,9 +1,9 @@
 //! What a client keeps.
 
-ghost use Rattle.std.specs.Prelude.{◌≡◌, ◌+◌, ◌≤◌, ◌++◌, ◌∷◌, [], length, None, false, OnOk, OnErr, IfOk};
+ghost use Rattle.std.specs.Prelude.{◌≡◌, ◌↔◌, ◌+◌, ◌≤◌, ◌++◌, ◌∷◌, [], length, None, false, IsTrue, OnOk, OnErr, IfOk};
 ghost use Rattle.client_terms.specs.States.{started, linked, unlinked};
 ghost use Rattle.client_terms.specs.Steps.{created, queried, subscribed};
-ghost use Rattle.stream_client.specs.Cores.{state_of};
+ghost use Rattle.stream_client.specs.Cores.{state_of, IsDone};
 
 use crate::outbox::Outbox;
 use crate::queue::Queue;
@@ -202,4 +202,11 @@ pub fn wish_subscribe(client: &mut Client, spec: OffsetSpec, credit: u16) -> Res
     client.spec = spec;
     client.credit = credit;
     Ok(())
+}
+
+/// Whether the wishes were answered and the queued messages are confirmed.
+pub fn is_done(client: &Client) -> bool
+    ensures { IsTrue result ↔ IsDone (state_of client.now) }
+{
+    client.creates == 0 && client.wishes.is_empty() && client.outbox.is_empty()
 }

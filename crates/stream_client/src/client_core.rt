@@ -1,23 +1,23 @@
 //! A client without its connection.
 
-ghost use Rattle.std.specs.Prelude.{◌≡◌, ◌↔◌, ◌+◌, ◌^◌, ◌<◌, ◌≤◌, ◌++◌, length, Ok, Err, Option, None, IsOk, OnOk, OnErr, IfOk};
+ghost use Rattle.std.specs.Prelude.{◌≡◌, ◌↔◌, ◌+◌, ◌^◌, ◌<◌, ◌≤◌, ◌++◌, length, Ok, Err, Option, None, IsTrue, IsOk, OnOk, OnErr, IfOk};
 ghost use Rattle.command_all.specs.declared.command.Command.{Command};
 ghost use Rattle.std.specs.Option.{option_to_list};
 ghost use Rattle.client_terms.specs.States.{last_id};
 ghost use Rattle.client_terms.specs.Steps.{enqueues, creates, queries, subscribes, connects, loses, sends, takes, ClientStep};
 ghost use Rattle.client_terms.specs.declared.fault.EnqueueFault.TheVariants as faults;
 ghost use Rattle.command_reader.specs.States.{new_reader};
-ghost use Rattle.stream_client.specs.Cores.{new_core, frame_max};
+ghost use Rattle.stream_client.specs.Cores.{new_core, frame_max, IsDone};
 ghost use Rattle.stream_client.specs.Sends.{AreBytesOf};
-ghost use Rattle.stream_client.specs.Feeds.{HearsNext, HearsAll, Feeds, told};
 
-use crate::client::{Client, link, start, unlink, wish_create, wish_query, wish_subscribe};
-use crate::hearing::hear_owned;
+use crate::client::{
+    Client, is_done, link, start, unlink, wish_create, wish_query, wish_subscribe,
+};
 use crate::sending::send_next;
-use client_terms::{ClientFault, EnqueueFault, Received};
+use client_terms::{EnqueueFault, Received};
 use command_all::Identity;
 use command_fields::OffsetSpec;
-use command_reader::{CLIENT_FRAME_MAX, CommandReader, Next};
+use command_reader::{CLIENT_FRAME_MAX, CommandReader};
 use frame_wire::{Octets, Text};
 use std::alloc::{AllocError, Global};
 use std::marker::Model;
@@ -37,16 +37,6 @@ impl Model for ClientCore {
     ghost Value = { CoreState };
 
     ghost view = { λ c. record { client = state_of c.client; reader = c.reader } };
-}
-
-/// What hearing a frame tells: that there was one, or the fault.
-fn told(heard: Result<(), ClientFault>) -> Result<bool, ClientFault>
-    ensures { result ≡ told heard }
-{
-    match heard {
-        Ok(()) => Ok(true),
-        Err(fault) => Err(fault),
-    }
 }
 
 impl ClientCore {
@@ -142,52 +132,18 @@ impl ClientCore {
         send_next(self.alloc, &mut self.client)
     }
 
-    /// Hears the next frame, and tells whether there was a whole one.
-    #[tactic(auto, using(crate::proofs::Hearsay::unread))]
-    fn hear_next(&mut self) -> Result<bool, ClientFault>
-        ensures { HearsNext self.old result self.new }
-    {
-        match self.reader.next() {
-            Err(_) => Err(ClientFault::Memory),
-            Ok(Next::More) => Ok(false),
-            Ok(Next::Unspelt { fault }) => Err(ClientFault::Frame(fault)),
-            Ok(Next::TooLarge { size }) => Err(ClientFault::TooLarge { size }),
-            Ok(Next::Command(command)) => told(hear_owned(self.alloc, &mut self.client, command)),
-        }
-    }
-
-    /// Hears all whole frames.
-    #[tactic(auto, using(crate::proofs::Hearsay::heard_none, crate::proofs::Hearsay::heard_next, crate::proofs::Hearsay::heard_all, crate::proofs::Hearsay::shortens))]
-    fn hear_all(&mut self) -> Result<(), ClientFault>
-        ensures { HearsAll self.old result self.new }
-    {
-        'frames: loop {
-            match self.hear_next() {
-                Ok(true) => {}
-                Ok(false) => return Ok(()),
-                Err(fault) => return Err(fault),
-            }
-        }
-    }
-
-    /// Takes the next piece of the server's bytes, and hears the frames that are whole now, each as the client's step. The
-    /// first frame at which the client can't go on is told as the fault, and those behind it are not heard: then only
-    /// `lost` is of use.
-    #[tactic(auto, using(crate::proofs::Hearsay::feeds_none))]
-    pub fn feed(&mut self, piece: &[u8]) -> Result<(), ClientFault>
-        ensures { Feeds self.old piece.now result self.new }
-    {
-        match self.reader.feed(piece) {
-            Err(_) => Err(ClientFault::Memory),
-            Ok(()) => self.hear_all(),
-        }
-    }
-
     /// The greatest id so that all ids up to it are confirmed.
     pub fn confirmed(&self) -> u64
         ensures { result ≡ self.now.client.confirmed }
     {
         self.client.outbox.confirmed()
+    }
+
+    /// Whether every wish was answered and every queued message is confirmed.
+    pub fn is_done(&self) -> bool
+        ensures { IsTrue result ↔ IsDone self.now.client }
+    {
+        is_done(&self.client)
     }
 
     /// The greatest id of the name, as the last answer to a query told it.

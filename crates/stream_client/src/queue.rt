@@ -1,6 +1,6 @@
 //! Items that wait in order.
 
-ghost use Rattle.std.specs.Prelude.{◌≡◌, ◌+◌, ◌≤◌, ◌++◌, ◌∷◌, List, [], length, drop, take, OnOk, OnErr, MatchOption};
+ghost use Rattle.std.specs.Prelude.{◌≡◌, ◌↔◌, ◌+◌, ◌≤◌, ◌++◌, ◌∷◌, List, [], length, drop, take, IsTrue, OnOk, OnErr, MatchOption};
 ghost use Rattle.std.specs.Option.{option_to_list};
 
 use std::alloc::Global;
@@ -53,6 +53,13 @@ impl<T> Queue<T> {
         ensures { MatchOption result (drop place self.now ≡ []) (λ item. drop place self.now ≡ item.now ∷ drop (place + 1) self.now) }
     {
         self.items.get(place)
+    }
+
+    /// Whether there is no item.
+    pub fn is_empty(&self) -> bool
+        ensures { IsTrue result ↔ (self.now ≡ []) }
+    {
+        self.items.is_empty()
     }
 
     /// How many items there are.
