@@ -1,2 +1,4 @@
 pub mod Posting
 pub mod Fits
+pub mod Hearsay
+pub mod Arrivals

@@ -9,15 +9,17 @@ ghost use Rattle.client_terms.specs.declared.fault.EnqueueFault.TheVariants as f
 ghost use Rattle.command_reader.specs.States.{new_reader};
 ghost use Rattle.stream_client.specs.Cores.{new_core, frame_max, IsDone};
 ghost use Rattle.stream_client.specs.Sends.{AreBytesOf};
+ghost use Rattle.stream_client.specs.Feeds.{HearsNext, HearsAll, Feeds, told};
 
 use crate::client::{
     Client, is_done, link, start, unlink, wish_create, wish_query, wish_subscribe,
 };
+use crate::hearing::hear_owned;
 use crate::sending::send_next;
-use client_terms::{EnqueueFault, Received};
+use client_terms::{ClientFault, EnqueueFault, Received};
 use command_all::Identity;
 use command_fields::OffsetSpec;
-use command_reader::{CLIENT_FRAME_MAX, CommandReader};
+use command_reader::{CLIENT_FRAME_MAX, CommandReader, Next};
 use frame_wire::{Octets, Text};
 use std::alloc::{AllocError, Global};
 use std::marker::Model;
@@ -37,6 +39,16 @@ impl Model for ClientCore {
     ghost Value = { CoreState };
 
     ghost view = { λ c. record { client = state_of c.client; reader = c.reader } };
+}
+
+/// What hearing a frame tells: that there was one, or the fault.
+fn told(heard: Result<(), ClientFault>) -> Result<bool, ClientFault>
+    ensures { result ≡ told heard }
+{
+    match heard {
+        Ok(()) => Ok(true),
+        Err(fault) => Err(fault),
+    }
 }
 
 impl ClientCore {
@@ -130,6 +142,47 @@ impl ClientCore {
         ensures err { OnErr result (self.new ≡ self.old) }
     {
         send_next(self.alloc, &mut self.client)
+    }
+
+    /// Hears the next frame, and tells whether there was a whole one.
+    #[tactic(auto, using(crate::proofs::Hearsay::unread))]
+    fn hear_next(&mut self) -> Result<bool, ClientFault>
+        ensures { HearsNext self.old result self.new }
+    {
+        match self.reader.next() {
+            Err(_) => Err(ClientFault::Memory),
+            Ok(Next::More) => Ok(false),
+            Ok(Next::Unspelt { fault }) => Err(ClientFault::Frame(fault)),
+            Ok(Next::TooLarge { size }) => Err(ClientFault::TooLarge { size }),
+            Ok(Next::Command(command)) => told(hear_owned(self.alloc, &mut self.client, command)),
+        }
+    }
+
+    /// Hears all whole frames.
+    #[tactic(auto, using(crate::proofs::Hearsay::heard_none, crate::proofs::Hearsay::heard_next, crate::proofs::Hearsay::heard_all, crate::proofs::Hearsay::shortens))]
+    fn hear_all(&mut self) -> Result<(), ClientFault>
+        ensures { HearsAll self.old result self.new }
+    {
+        'frames: loop {
+            match self.hear_next() {
+                Ok(true) => {}
+                Ok(false) => return Ok(()),
+                Err(fault) => return Err(fault),
+            }
+        }
+    }
+
+    /// Takes the next piece of the server's bytes, and hears the frames that are whole now, each as the client's step. The
+    /// first frame at which the client can't go on is told as the fault, and those behind it are not heard: then only
+    /// `lost` is of use.
+    #[tactic(auto, using(crate::proofs::Hearsay::feeds_none))]
+    pub fn feed(&mut self, piece: &[u8]) -> Result<(), ClientFault>
+        ensures { Feeds self.old piece.now result self.new }
+    {
+        match self.reader.feed(piece) {
+            Err(_) => Err(ClientFault::Memory),
+            Ok(()) => self.hear_all(),
+        }
     }
 
     /// The greatest id so that all ids up to it are confirmed.

@@ -7,8 +7,11 @@ mod client;
 mod client_core;
 mod due;
 mod frames;
+mod heard;
+mod hearing;
 mod outbox;
 mod queue;
+mod receiving;
 mod sending;
 
 pub use client_core::ClientCore;
