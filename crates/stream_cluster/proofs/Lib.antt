@@ -8,3 +8,4 @@ pub mod Soundly
 pub mod Finds
 pub mod Opening
 pub mod Rising
+pub mod Leading

@@ -3,3 +3,4 @@ pub mod Restarts
 pub mod Letters
 pub mod Happens
 pub mod Opens
+pub mod Leads

@@ -13,8 +13,10 @@ mod jobs;
 mod nudge;
 mod open;
 mod place;
+mod reads;
 mod replicas;
 mod restart;
+mod running;
 mod share;
 mod whole;
 

@@ -1,7 +1,9 @@
 //! The members of a stream and its coordinator, the messages between them and the committed list.
 
-ghost use Rattle.std.specs.Prelude.{◌≡◌};
+ghost use Rattle.std.specs.Prelude.{◌≡◌, true, false, MatchOption, slice_index_or};
+ghost use Rattle.replication_laws.specs.Cluster.{seat, nobody};
 ghost use Rattle.cluster_core.specs.Up.{is_up, has_job};
+ghost use Rattle.stream_cluster.specs.Leads.{is_member_up};
 ghost use Rattle.stream_cluster.specs.Seats.{seat_up, seat_job};
 
 use crate::place::Place;
@@ -74,5 +76,25 @@ impl Replicas {
             return self.coordinator.job().is_some();
         }
         seat_has_job(self.seats.as_slice(), member as usize - 1)
+    }
+
+    /// The member of a number, if it is there and up.
+    pub(crate) fn seat(&self, number: u8) -> Option<&Place>
+        ensures { MatchOption result (is_member_up self.now.cluster number ≡ false) (λ s. (is_member_up self.now.cluster number ≡ true) × (s.now ≡ seat self.now.cluster number)) }
+    {
+        if number == 0 {
+            return None;
+        }
+        up_seat(self.seats.as_slice(), number as usize - 1)
+    }
+}
+
+/// The member at a place, if it is there and up.
+fn up_seat(seats: &[Place], place: usize) -> Option<&Place>
+    ensures { MatchOption result (seat_up seats.now place ≡ false) (λ s. (seat_up seats.now place ≡ true) × (s.now ≡ slice_index_or seats.now place nobody)) }
+{
+    match seats.get(place) {
+        None => None,
+        Some(seat) => { if seat.up { Some(seat) } else { None } }
     }
 }

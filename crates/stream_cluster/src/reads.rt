@@ -1,0 +1,73 @@
+//! What a stream tells.
+
+ghost use Rattle.std.specs.Prelude.{◌≡◌, true, false, MatchOption, Some};
+ghost use Rattle.chunk_format.specs.Logs.{IsLog, Truthful};
+ghost use Rattle.replication_laws.specs.Cluster.{member};
+ghost use Rattle.cluster_core.specs.Up.{is_up, running};
+ghost use Rattle.cluster_core.specs.Parts.{lettered};
+ghost use Rattle.cluster_core.specs.States.{number_at};
+ghost use Rattle.stream_cluster.specs.Leads.{is_member_up};
+
+use crate::cluster::Cluster;
+use chunk_format::Stored;
+use cluster_core::Numbered;
+use epoch_coordinator::Job;
+
+impl Cluster {
+    /// The number of the stream.
+    pub fn stream(&self) -> u32
+        ensures { result ≡ self.now.number }
+    {
+        self.stream
+    }
+
+    /// The committed list: one chunk after the other from offset 0 on, with truthful snapshots. It only grows.
+    pub fn committed(&self) -> &[Stored]
+        ensures list { result.now ≡ self.now.state.cluster.committed }
+        ensures is_log { IsLog self.now.state.cluster.committed }
+        ensures truthful { Truthful self.now.state.cluster.committed }
+    {
+        self.replicas.committed.as_slice()
+    }
+
+    /// The messages that were neither lost nor forgotten, in the order in which they were sent.
+    pub fn messages(&self) -> &[Numbered]
+        ensures { lettered result.now ≡ self.now.state.cluster.mail }
+    {
+        self.replicas.mail.as_slice()
+    }
+
+    /// Whether the coordinator, number 0, or a member is there and up.
+    pub fn is_up(&self, member: u8) -> bool
+        ensures { result ≡ is_up self.now.state.cluster member }
+    {
+        self.replicas.is_up(member)
+    }
+
+    /// The epoch that runs with an open leader, if one does.
+    pub fn running(&self) -> Option<u64>
+        ensures { result ≡ running self.now.state.cluster }
+    {
+        self.replicas.running()
+    }
+
+    /// The log of a member that is up.
+    pub fn log(&self, number: u8) -> Option<&[Stored]>
+        ensures { MatchOption result (is_member_up self.now.state.cluster number ≡ false) (λ log. (is_member_up self.now.state.cluster number ≡ true) × (log.now ≡ (member self.now.state.cluster number).log)) }
+    {
+        match self.replicas.seat(number) {
+            None => None,
+            Some(seat) => Some(seat.member.log()),
+        }
+    }
+
+    /// The epoch that a member promised, of one that is up.
+    pub fn promise(&self, number: u8) -> Option<u64>
+        ensures { MatchOption result (is_member_up self.now.state.cluster number ≡ false) (λ promise. (is_member_up self.now.state.cluster number ≡ true) × (promise ≡ (member self.now.state.cluster number).promise)) }
+    {
+        match self.replicas.seat(number) {
+            None => None,
+            Some(seat) => Some(seat.member.promise()),
+        }
+    }
+}
