@@ -1,22 +1,21 @@
 -- Messages come to their receivers.
-use Rattle.std.proofs.Common.{◌≡◌, ◌≤◌, ◌<◌, ◌+◌, ℕ, zero, suc, Bool, true, false, cond, nat_lt, List, [], ◌∷◌, ◌++◌, length, Option, Some, None, position, slice_set, slice_index_or, refl, sym, ap, subst, ◌∙◌, arith}
+use Rattle.std.proofs.Common.{◌≡◌, ◌<◌, ◌+◌, ℕ, suc, Bool, true, false, cond, nat_lt, List, [], ◌∷◌, ◌++◌, length, Option, Some, None, position, slice_set, slice_index_or, refl, sym, ap, subst, ◌∙◌, arith}
 use Rattle.std.specs.List.{position_or_len}
 use Rattle.std.proofs.lemmas.Grind.{common_steps}
 use Rattle.std.proofs.lemmas.List.{length-map}
 use Rattle.chunk_format.specs.declared.chunk.Chunk.{Chunk}
-use Rattle.epoch_coordinator.specs.declared.message.Message.{Message}
 use Rattle.epoch_coordinator.specs.declared.message.Sent.{Sent}
 use Rattle.epoch_coordinator.specs.MemberSteps.{taken, commit_end}
-use Rattle.epoch_coordinator.specs.Coordinators.{CoordinatorState, Hears}
+use Rattle.epoch_coordinator.specs.Coordinators.{CoordinatorState}
 use Rattle.replication_laws.specs.Cluster.{ClusterState, Seat, Letter, nobody, member, numbered, letter_in, marked}
 use Rattle.replication_laws.specs.Events.{comes, to_coordinator}
 use Rattle.cluster_core.specs.declared.mail.Numbered.{Numbered}
 use Rattle.cluster_core.specs.Parts.{letter_of, lettered, has_number, delivered_at, did_mail, extended}
 use Rattle.cluster_core.specs.Up.{is_up, has_job}
-use Rattle.cluster_core.specs.States.{ReplicaState, IsStream, reigned, cluster_of, state_of, coordinator_of, told_by}
-use Rattle.cluster_core.specs.Kept.{At, ahead_at, hears_by, delivered_by, after_deliver}
+use Rattle.cluster_core.specs.States.{ReplicaState, IsStream, cluster_of, state_of, coordinator_of, told_by}
+use Rattle.cluster_core.specs.Kept.{At, ahead_at, delivered_by, after_deliver}
 use Rattle.cluster_core.proofs.Letters.{letter_at, marked_at}
-use Rattle.cluster_core.proofs.Deliveries.{taken_is, hears_is, few_of_stream}
+use Rattle.cluster_core.proofs.Deliveries.{taken_is, hears_is}
 use Rattle.stream_cluster.specs.Seats.{in_seat}
 use Rattle.stream_cluster.specs.Letters.{is_numbered, ComesTo}
 use Rattle.stream_cluster.proofs.Finds.{item_at}

@@ -1,20 +1,20 @@
 -- Jobs are done, and messages come to their receivers.
-use Rattle.std.proofs.Common.{◌≡◌, ◌≤◌, ◌<◌, ◌+◌, ◌-◌, ℕ, zero, suc, Bool, true, false, cond, List, [], ◌∷◌, ◌++◌, length, Option, Some, None, is_some, IsSome, slice_set, slice_index_or, add-one, refl, sym, ap, subst, ◌∙◌, arith}
+use Rattle.std.proofs.Common.{◌≡◌, ◌≤◌, ◌+◌, ℕ, zero, suc, Bool, true, false, List, [], ◌++◌, length, Option, Some, None, is_some, slice_set, slice_index_or, add-one, refl, sym, ap, subst, ◌∙◌, arith}
 use Rattle.std.specs.Prelude.{unwrap_or}
 use Rattle.std.proofs.lemmas.List.{length-map}
 use Rattle.chunk_format.specs.declared.chunk.Chunk.{Chunk}
 use Rattle.epoch_coordinator.specs.declared.message.Message.TheVariants as messages
 use Rattle.epoch_coordinator.specs.declared.message.Sent.{Sent}
-use Rattle.epoch_coordinator.specs.MemberSteps.{Took, finished, commit_end, all_members, numbers_from}
+use Rattle.epoch_coordinator.specs.MemberSteps.{finished, commit_end, all_members, numbers_from}
 use Rattle.epoch_coordinator.specs.MemberSteps.{mail as mail_to}
 use Rattle.epoch_coordinator.specs.Coordinators.{CoordinatorState, begun, stop_all}
 use Rattle.replication_laws.specs.Cluster.{ClusterState, Seat, Letter, nobody, member, numbered}
-use Rattle.replication_laws.specs.Events.{performed, begins}
+use Rattle.replication_laws.specs.Events.{begins}
 use Rattle.cluster_core.specs.declared.mail.Numbered.{Numbered}
 use Rattle.cluster_core.specs.Parts.{lettered, extended}
-use Rattle.cluster_core.specs.Up.{is_up, has_job}
+use Rattle.cluster_core.specs.Up.{is_up}
 use Rattle.cluster_core.specs.States.{ReplicaState, IsStream, reigned, cluster_of, state_of, coordinator_of, counted_on}
-use Rattle.cluster_core.specs.Kept.{ahead_at, took_ahead, after_done}
+use Rattle.cluster_core.specs.Kept.{ahead_at, after_done}
 use Rattle.cluster_core.proofs.Deliveries.{finished_is, few_of_stream}
 use Rattle.cluster_core.proofs.Moves.{finished_few}
 use Rattle.stream_cluster.specs.Seats.{in_seat}

@@ -5,12 +5,12 @@ use Rattle.epoch_coordinator.specs.declared.coordinator.Phase.{Phase}
 use Rattle.epoch_coordinator.specs.declared.coordinator.Phase.TheVariants.{Idle, Electing, Running}
 use Rattle.epoch_coordinator.specs.Members.{MemberRole, Stopped, Follower, Leader}
 use Rattle.epoch_coordinator.specs.Coordinators.{CoordinatorState, running_in}
-use Rattle.replication_laws.specs.Cluster.{ClusterState, Seat, nobody, durable, is_opened, member}
+use Rattle.replication_laws.specs.Cluster.{ClusterState, Seat, nobody, durable, is_opened}
 use Rattle.member_core.specs.States.{is_open}
 use Rattle.cluster_core.specs.declared.mail.Numbered.{Numbered}
 use Rattle.cluster_core.specs.States.{ReplicaState, cluster_of, state_of}
-use Rattle.cluster_core.specs.Up.{is_up, is_open_in, running_by, running}
-use Rattle.stream_cluster.specs.Leads.{seat_leads, place_leads}
+use Rattle.cluster_core.specs.Up.{is_open_in, running_by, running}
+use Rattle.stream_cluster.specs.Leads.{place_leads}
 
 pub opened_is : (role : MemberRole) → is_open role ≡ is_opened role
 opened_is Stopped = refl

@@ -1,6 +1,6 @@
 -- Members by their numbers, from 1 on, and seats by their places, from 0 on.
-use Rattle.std.proofs.Common.{◌≡◌, ◌≤◌, ◌<◌, ◌-◌, ℕ, zero, suc, Bool, true, false, ◌&&◌, nat_lt, List, length, slice_index_or, refl, sym, ap, ◌∙◌, arith}
-use Rattle.replication_laws.specs.Cluster.{ClusterState, Seat, nobody}
+use Rattle.std.proofs.Common.{◌≡◌, ◌≤◌, ◌<◌, ◌-◌, ℕ, zero, suc, Bool, true, false, ◌&&◌, nat_lt, length, slice_index_or, refl, ap, arith}
+use Rattle.replication_laws.specs.Cluster.{ClusterState, nobody}
 use Rattle.cluster_core.specs.Up.{is_up, has_job}
 use Rattle.stream_cluster.specs.Seats.{seat_up, seat_job}
 

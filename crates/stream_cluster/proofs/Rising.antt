@@ -1,9 +1,7 @@
 -- A member comes up with what its disk may have.
-use Rattle.std.proofs.Common.{◌≡◌, ◌≤◌, ◌<◌, ◌+◌, ◌⊎◌, ℕ, suc, Bool, true, List, length, slice_set, Option, Some, add-one, inl, inr, refl, sym, ap, subst, ◌∙◌, arith}
+use Rattle.std.proofs.Common.{◌≡◌, ◌≤◌, ◌+◌, ℕ, suc, Bool, true, List, length, slice_set, add-one, inl, inr, sym, ap, subst, ◌∙◌, arith}
 use Rattle.chunk_format.specs.declared.chunk.Chunk.{Chunk}
-use Rattle.chunk_format.specs.Logs.{IsLog, Truthful, last_epoch}
-use Rattle.epoch_coordinator.specs.declared.message.Job.{Job}
-use Rattle.epoch_coordinator.specs.declared.message.Job.TheVariants.{Promise}
+use Rattle.chunk_format.specs.Logs.{Truthful, last_epoch}
 use Rattle.epoch_coordinator.specs.Members.{MemberState}
 use Rattle.epoch_coordinator.specs.MemberSteps.{restarted}
 use Rattle.epoch_coordinator.specs.Coordinators.{CoordinatorState}

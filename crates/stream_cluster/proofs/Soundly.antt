@@ -1,5 +1,5 @@
 -- Each event keeps a stream sound.
-use Rattle.std.proofs.Common.{◌≡◌, ◌≤◌, ◌<◌, ℕ, zero, suc, Bool, true, false, cond, not, ◌&&◌, ◌==◌, nat_lt, List, [], length, length-set, refl, sym, ap, subst, ◌∙◌, arith}
+use Rattle.std.proofs.Common.{◌≡◌, ◌<◌, ℕ, zero, suc, Bool, true, false, cond, not, ◌&&◌, ◌==◌, nat_lt, List, [], length, length-set, refl, sym, subst, arith}
 use Rattle.chunk_format.specs.declared.chunk.Chunk.{Chunk}
 use Rattle.replication_laws.specs.Cluster.{ClusterState, IsMember, seat, member}
 use Rattle.replication_laws.specs.Events.{Restart}

@@ -7,7 +7,7 @@ use Rattle.epoch_coordinator.specs.Members.{MemberState}
 use Rattle.epoch_coordinator.specs.MemberSteps.{Took, taken, commit_end}
 use Rattle.replication_laws.specs.Cluster.{Seat}
 use Rattle.member_core.specs.declared.take.Taken.{Taken}
-use Rattle.member_core.specs.declared.take.Taken.TheVariants.{Done, Later}
+use Rattle.member_core.specs.declared.take.Taken.TheVariants.{Done}
 use Rattle.member_core.specs.States.{answer_by, state_by}
 use Rattle.cluster_core.specs.States.{seat_of}
 use Rattle.stream_cluster.specs.Seats.{in_seat}

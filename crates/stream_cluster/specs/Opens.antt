@@ -1,5 +1,5 @@
 -- A stream is opened over what the disks of its members had.
-use Rattle.std.specs.Prelude.{◌≡◌, ℕ, zero, suc, ◌+◌, ◌<◌, ◌≤◌, ◌⊎◌, List, [], ◌∷◌, ◌++◌, length, map, slice_index_or, Result, Ok, Err}
+use Rattle.std.specs.Prelude.{◌≡◌, ℕ, suc, ◌<◌, ◌≤◌, ◌⊎◌, List, [], ◌∷◌, ◌++◌, length, map, slice_index_or}
 use Rattle.chunk_format.specs.declared.chunk.Chunk.{Chunk}
 use Rattle.chunk_format.specs.Logs.{IsLog, Truthful, last_epoch}
 use Rattle.replication_laws.specs.Openings.{Start, opened_cluster, Diverges, Agrees}

@@ -1,5 +1,5 @@
 -- The seats of a stream by their places, counted from 0, and what comes of an election.
-use Rattle.std.specs.Prelude.{◌≡◌, ℕ, Bool, true, false, ◌&&◌, ◌==◌, nat_lt, is_some, List, length, slice_index_or}
+use Rattle.std.specs.Prelude.{ℕ, Bool, true, false, ◌&&◌, ◌==◌, nat_lt, is_some, List, length, slice_index_or}
 use Rattle.epoch_coordinator.specs.declared.coordinator.Elected.{Elected}
 use Rattle.epoch_coordinator.specs.declared.coordinator.Elected.TheVariants as elected
 use Rattle.epoch_coordinator.specs.Members.{MemberState, Stopped}

@@ -1,5 +1,4 @@
-use Rattle.std.proofs.Common.{List, ◌+◌, subst, arith}
-use Rattle.segment_store.specs.declared.recovered.Recovered.{Recovered}
+use Rattle.std.proofs.Common.{◌+◌, subst, arith}
 use Rattle.stream_cluster.specs.Opens.{AllAgreeWith}
 use Rattle.stream_cluster.proofs.Opening.{rest_is, agree_next, pair_by}
 use Rattle.stream_cluster.proofs.whole.refuse_diverged.Goals as goal
