@@ -20,7 +20,7 @@ use Rattle.stream_terms.specs.declared.terms.OfferFault.{OfferFault}
 use Rattle.stream_terms.specs.declared.terms.OfferFault.TheVariants as refused
 use Rattle.stream_terms.specs.Views.{name_of}
 use Rattle.stream_terms.specs.Steps.{names_one}
-use Rattle.offer_chunks.specs.Taken.{items_of, is_empty_batch, taken_from}
+use Rattle.offer_chunks.specs.Taken.{items_of, is_empty_batch, taken_from, IdFits}
 use Rattle.leader_offers.specs.declared.put.Stop.{Stop}
 use Rattle.leader_offers.specs.declared.put.Stop.TheVariants as stops
 use Rattle.leader_offers.specs.Adds.{offer_adds, offset_adds, taken_items, HasRoom, references_of, consumers_of, new_names, references_with, consumers_with, Passes, offer_limits, offset_limits, Limited, Added, OfferAdded, OfferRefused, OffsetAdded, OffsetRefused}
@@ -104,11 +104,12 @@ queue_by limits m n name chunks first most some put names most_is few more =
 
 pub offer_added : (limits : Limits) (m n : MemberState) (name : List ℕ) (g : Option ℕ) (items : List Tagged) (now count : ℕ) (t : Taken) → g ≡ Greatest name (sequence_of m) → position is_empty_batch items ≡ None → references_with name m ≤ limits.references
     → Put m (all_chunks m.promise (stamp_at now) name (sequence_of m) (taken_from name g (items_of items))) n → count ≡ length (taken_from name g (items_of items)) → bytes_of (sequence_of n) ≤ limits.log_bytes → plain_count (waiting_of n) ≤ limits.queue
-    → t.end ≡ end_of (sequence_of n) → t.accepted ≡ count → OfferAdded limits m name items now t n
-offer_added limits m n name g items now count t g_is whole names put count_is bytes queue end accepted = record {
+    → t.end ≡ end_of (sequence_of n) → t.accepted ≡ count → AllByRecursion IdFits (items_of items) → OfferAdded limits m name items now t n
+offer_added limits m n name g items now count t g_is whole names put count_is bytes queue end accepted fits = record {
   whole = whole;
   added = added limits m n name (offer_adds m name items now) References t (subst (λ (x : List Chunk). Put m x n) (adds_is m name g items now g_is) put) (not_less (references_with name m) limits.references names) bytes queue end;
   accepted_is = accepted ∙ count_is ∙ ap length (taken_by m name g items g_is);
+  ids_fit = fits;
 }
 
 pub offer_stopped : (limits : Limits) (m : MemberState) (name : List ℕ) (g : Option ℕ) (items : List Tagged) (now : ℕ) (s : Stop) (fault : OfferFault) → g ≡ Greatest name (sequence_of m) → position is_empty_batch items ≡ None → references_with name m ≤ limits.references
@@ -133,9 +134,9 @@ offer_full limits m n name g items now (refused.Limit Queue most) g_is whole nam
     (whole, queue_by limits m n name chunks References most (some_adds m name g items now g_is some) (subst (λ (x : List Chunk). Put m x n) (adds_is m name g items now g_is) put) (not_less (references_with name m) limits.references names) full.0 full.1 full.2)
 offer_full limits m n name g items now refused.Memory g_is whole names some put full = absurd full
 
-pub nothing_added : (limits : Limits) (m n : MemberState) (name : List ℕ) (g : Option ℕ) (items : List Tagged) (now : ℕ) (t : Taken) → Leads m → n ≡ m → g ≡ Greatest name (sequence_of m) → position is_empty_batch items ≡ None → taken_from name g (items_of items) ≡ [] → t.end ≡ end_of (sequence_of n) → t.accepted ≡ 0
+pub nothing_added : (limits : Limits) (m n : MemberState) (name : List ℕ) (g : Option ℕ) (items : List Tagged) (now : ℕ) (t : Taken) → Leads m → n ≡ m → g ≡ Greatest name (sequence_of m) → position is_empty_batch items ≡ None → taken_from name g (items_of items) ≡ [] → t.end ≡ end_of (sequence_of n) → t.accepted ≡ 0 → AllByRecursion IdFits (items_of items)
     → OfferAdded limits m name items now t n
-nothing_added limits m n name g items now t l same g_is whole none end count =
+nothing_added limits m n name g items now t l same g_is whole none end count fits =
     let kept : taken_items m name items ≡ [] = sym (taken_by m name g items g_is) ∙ none in
     let chunks : offer_adds m name items now ≡ [] = ap (λ (k : List Item). all_chunks m.promise (stamp_at now) name (sequence_of m) k) kept in
     record {
@@ -148,6 +149,7 @@ nothing_added limits m n name g items now t l same g_is whole none end count =
         end_is = end ∙ ap (λ (x : MemberState). end_of (sequence_of x)) same ∙ ap end_of (sym (append-nil (sequence_of m)));
       });
       accepted_is = count ∙ sym (ap length kept);
+      ids_fit = fits;
     }
 
 pub more_publishers : (limits : Limits) (m : MemberState) (name : List ℕ) (g : Option ℕ) (items : List Tagged) (now most : ℕ) → g ≡ Greatest name (sequence_of m) → position is_empty_batch items ≡ None → 0 < length (taken_from name g (items_of items)) → limits.references < references_with name m → most ≡ limits.references

@@ -10,7 +10,7 @@ use Rattle.command_data.specs.declared.item.Tagged.{Tagged}
 use Rattle.epoch_coordinator.specs.Members.{MemberState, sequence_of}
 use Rattle.epoch_coordinator.specs.Offers.{Item, is_new, rising_from, trailer_by, user_chunk, with_snapshot, most_entries, laid, chunk_count}
 use Rattle.offer_chunks.specs.declared.run.Run.{Run}
-use Rattle.offer_chunks.specs.Taken.{item_of, items_of, entry_of, entries_of, taken_from, IsRun}
+use Rattle.offer_chunks.specs.Taken.{item_of, items_of, entry_of, entries_of, taken_from, IdFits, IsRun}
 use Rattle.leader_offers.specs.declared.put.Stop.{Stop}
 use Rattle.leader_offers.specs.declared.put.Stop.TheVariants as stops
 use Rattle.leader_offers.specs.declared.lay.Step.{Step}
@@ -94,6 +94,7 @@ run_none name g items stamp m run step l is none count greatest rest =
       count_is = omega (arith, count, least, nothing);
       rest_is = ap (λ (o : Option ℕ). taken_from name o (items_of step.rest.now)) greatest ∙ ap (λ (r : List Tagged). taken_from name run.greatest (items_of r)) rest ∙ is.rest_is;
       shorter = λ some. let less = less_items items run is.shorter some in let same = ap length rest in omega (arith, less, same);
+      ids_fit = λ each. is.ids_fit (subst (λ (r : List Tagged). AllByRecursion IdFits (items_of r)) rest each);
     }
 
 pub run_some : (name : List ℕ) (g : Option ℕ) (items : List Tagged) (stamp : ℤ) (m n : MemberState) (run : Run) (step : Step) → IsRun name g 4096 (items_of items) run → (length run.entries ≡ 0 → ⊥) → step.count ≡ length run.entries → step.greatest ≡ run.greatest → step.rest.now ≡ run.rest.now
@@ -105,6 +106,7 @@ run_some name g items stamp m n run step is some count greatest rest put =
       count_is = count ∙ ap length is.entries_are ∙ entry_count (take 4096 kept);
       rest_is = ap (λ (o : Option ℕ). taken_from name o (items_of step.rest.now)) greatest ∙ ap (λ (r : List Tagged). taken_from name run.greatest (items_of r)) rest ∙ is.rest_is;
       shorter = λ more. let less = less_items items run is.shorter more in let same = ap length rest in omega (arith, less, same);
+      ids_fit = λ each. is.ids_fit (subst (λ (r : List Tagged). AllByRecursion IdFits (items_of r)) rest each);
     }
 
 pub run_stopped : (name : List ℕ) (g : Option ℕ) (items : List Tagged) (stamp : ℤ) (m : MemberState) (run : Run) (s : Stop) → IsRun name g 4096 (items_of items) run → (length run.entries ≡ 0 → ⊥)
@@ -134,6 +136,7 @@ pub record Laying (old : MemberState) (name : List ℕ) (g : Option ℕ) (stamp 
   pub put : Put old done m
   pub left : done ++ all_chunks old.promise stamp name (sequence_of old ++ done) (taken_from name last (items_of rest)) ≡ all_chunks old.promise stamp name (sequence_of old) (taken_from name g (items_of items))
   pub counted : count + length (taken_from name last (items_of rest)) ≡ length (taken_from name g (items_of items))
+  pub fits : AllByRecursion IdFits (items_of rest) → AllByRecursion IdFits (items_of items)
 
 pub laying_begun : (old : MemberState) (name : List ℕ) (g : Option ℕ) (stamp : ℤ) (items : List Tagged) → Leads old → Laying old name g stamp items old g items 0
 laying_begun old name g stamp items l = record {
@@ -141,6 +144,7 @@ laying_begun old name g stamp items l = record {
   put = (none_behind old l, tt);
   left = ap (λ (x : List Chunk). all_chunks old.promise stamp name x (taken_from name g (items_of items))) (append-nil (sequence_of old));
   counted = omega arith;
+  fits = λ each. each;
 }
 
 -- the chunks of a run, as the leader's sequence has them now
@@ -168,6 +172,7 @@ laying_more old name g stamp items m n last rest count count' step so run more =
           ∙ ap (λ (x : List Chunk). so.done ++ x) (sym (parted old.promise stamp name (sequence_of old ++ so.done) kept))
           ∙ so.left;
       counted = omega (arith, take_few, drop_few, counts, rest_count, counted, more);
+      fits = λ each. so.fits (run.ids_fit each);
     }
 
 -- at most so many are counted
@@ -224,3 +229,10 @@ rest_some n b is none = let so : (n == 0) ≡ false = sym is ∙ none in grind (
 
 pub rest_none : (n : ℕ) (b : Bool) → b ≡ (n == 0) → b ≡ true → n ≡ 0
 rest_none n b is all = let so : (n == 0) ≡ true = sym is ∙ all in grind (arith, so)
+
+none_fit : (rest : List Tagged) → length rest ≡ 0 → AllByRecursion IdFits (items_of rest)
+none_fit [] none = tt
+none_fit (t ∷ more) none = absurd (omega (arith, none))
+
+pub fit_all : (old : MemberState) (name : List ℕ) (g : Option ℕ) (stamp : ℤ) (items : List Tagged) (m : MemberState) (last : Option ℕ) (rest : List Tagged) (count : ℕ) → Laying old name g stamp items m last rest count → length rest ≡ 0 → AllByRecursion IdFits (items_of items)
+fit_all old name g stamp items m last rest count so none = so.fits (none_fit rest none)

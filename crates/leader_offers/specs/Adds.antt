@@ -114,11 +114,12 @@ pub record Added (limits : Limits) (old : MemberState) (name : List ℕ) (chunks
   pub within : Within limits old name chunks whats
   pub end_is : t.end ≡ end_of (sequence_of old ++ chunks)
 
--- and the items that were taken are counted
+-- And the items that were taken are counted. The ids of all are below 2^64.
 pub record OfferAdded (limits : Limits) (old : MemberState) (name : List ℕ) (items : List Tagged) (now : ℕ) (t : Taken) (new : MemberState) : Type 0 where
   pub whole : position is_empty_batch items ≡ None
   pub added : Added limits old name (offer_adds old name items now) offer_limits t new
   pub accepted_is : t.accepted ≡ length (taken_items old name items)
+  pub ids_fit : AllByRecursion IdFits (items_of items)
 
 -- Why an offer is refused: at the first sub-batch of no records; by a limit, where there is none; for want of memory.
 abbrev pub OfferRefused : Limits → MemberState → List ℕ → List Tagged → ℕ → OfferFault → Type 0

@@ -11,7 +11,7 @@ use Rattle.epoch_coordinator.specs.declared.message.Job.TheVariants as jobs
 use Rattle.epoch_coordinator.specs.Members.{Leading, MemberState, Leader, sequence_of}
 use Rattle.epoch_coordinator.specs.Offers.{Item, user_chunk, with_snapshot, most_entries, laid, chunk_count}
 use Rattle.member_core.specs.States.{offered_all, waiting_of}
-use Rattle.offer_chunks.specs.Taken.{items_of, taken_from}
+use Rattle.offer_chunks.specs.Taken.{items_of, taken_from, IdFits}
 use Rattle.frame_wire.specs.declared.limits.Limits.{Limits}
 use Rattle.member_core.specs.Kept.{bytes_of, plain_count}
 use Rattle.stream_terms.specs.declared.terms.What.TheVariants.{References, Consumers, LogBytes, Queue}
@@ -77,6 +77,7 @@ pub record RunLaid (name : List ℕ) (greatest : Option ℕ) (items : List Tagge
   pub count_is : step.count ≡ length (take most_entries (taken_from name greatest (items_of items)))
   pub rest_is : taken_from name step.greatest (items_of step.rest.now) ≡ drop most_entries (taken_from name greatest (items_of items))
   pub shorter : 0 < length items → length step.rest.now < length items
+  pub ids_fit : AllByRecursion IdFits (items_of step.rest.now) → AllByRecursion IdFits (items_of items)
 
 -- a leader has more bytes than there may be, or else more chunks that aren't written
 abbrev pub IsFull : Limits → MemberState → OfferFault → Type 0

@@ -1,11 +1,12 @@
 //! Lays the items of an offer out as chunks behind a leader's sequence.
 
 ghost use Rattle.std.specs.Prelude.{◌≡◌, ◌≤◌, length, OnErr, OnOk, IfOk, IfErr};
+ghost use Rattle.std.specs.List.{AllByRecursion};
 ghost use Rattle.chunk_format.specs.Logs.{end_of};
 ghost use Rattle.epoch_coordinator.specs.Members.{sequence_of};
 ghost use Rattle.epoch_coordinator.specs.MemberSteps.{stamp_at};
 ghost use Rattle.epoch_coordinator.specs.Offers.{with_snapshot};
-ghost use Rattle.offer_chunks.specs.Taken.{items_of, taken_from};
+ghost use Rattle.offer_chunks.specs.Taken.{items_of, taken_from, IdFits};
 ghost use Rattle.leader_offers.specs.Leads.{Leads, Put, SomeBehind, WhyStopped, chunk_with, run_chunks, all_chunks, RunLaid};
 
 use crate::put::{Stop, put};
@@ -108,6 +109,7 @@ pub(crate) fn lay(
     requires short { length name.now ≤ 255 }
     requires few { length items.now ≤ 1048576 }
     ensures put { OnOk result (Put leader.old (all_chunks leader.old.promise (stamp_at now) name.now (sequence_of leader.old) (taken_from name.now greatest (items_of items.now))) leader.new) }
+    ensures fits { OnOk result (AllByRecursion IdFits (items_of items.now)) }
     ensures count { IfOk result (λ count. count ≡ length (taken_from name.now greatest (items_of items.now))) }
     ensures err { OnErr result (SomeBehind leader.old leader.new) }
     ensures stopped { IfErr result (WhyStopped (all_chunks leader.old.promise (stamp_at now) name.now (sequence_of leader.old) (taken_from name.now greatest (items_of items.now)))) }

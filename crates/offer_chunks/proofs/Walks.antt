@@ -1,6 +1,6 @@
 -- The items of an offer, taken one after the other.
-use Rattle.std.proofs.Common.{◌≡◌, ℕ, zero, suc, ◌-◌, ◌≤◌, ◌<◌, Bool, true, false, cond, ◌||◌, List, [], ◌∷◌, ◌++◌, take, drop, length, Option, Some, refl, sym, ap, ◌∙◌, append_assoc, arith}
-use Rattle.std.specs.List.{AllByRecursion, list_any}
+use Rattle.std.proofs.Common.{subst, ◌≡◌, ℕ, zero, suc, ◌-◌, ◌≤◌, ◌<◌, Bool, true, false, cond, List, [], ◌∷◌, ◌++◌, take, drop, length, Option, Some, refl, sym, ap, ◌∙◌, append_assoc, arith}
+use Rattle.std.specs.List.{AllByRecursion}
 use Rattle.std.proofs.lemmas.List.{append-nil, length-map}
 use Rattle.chunk_format.specs.declared.entry.Entry.{Entry}
 use Rattle.command_data.specs.declared.item.Tagged.{Tagged}
@@ -57,9 +57,10 @@ pub record Walk (name : List ℕ) (greatest : Option ℕ) (most : ℕ) (items : 
   pub within : length rest ≤ length items
   pub few : left ≤ most
   pub fits : AllByRecursion IdFits rest → AllByRecursion IdFits items
+  pub taken_fits : AllByRecursion IdFits (take left (taken_from name last rest)) → AllByRecursion IdFits (take most (taken_from name greatest items))
 
 pub begun : (name : List ℕ) (greatest : Option ℕ) (most : ℕ) (items : List Item) → Walk name greatest most items [] [] greatest most items
-begun name greatest most items = record { entries_are = refl; trailer_is = refl; behind = refl; moved = λ less. absurd (omega (arith, less)); within = omega arith; few = omega arith; fits = λ each. each }
+begun name greatest most items = record { entries_are = refl; trailer_is = refl; behind = refl; moved = λ less. absurd (omega (arith, less)); within = omega arith; few = omega arith; fits = λ each. each; taken_fits = λ each. each }
 
 pub took : (name : List ℕ) (greatest : Option ℕ) (most : ℕ) (items : List Item) (entries : List Entry) (trailer : List ℕ) (last : Option ℕ) (left : ℕ) (i : Item) (more : List Item) (entries' : List Entry) (trailer' : List ℕ)
     → Walk name greatest most items entries trailer last left (i ∷ more) → is_taken name last i.id ≡ true → IdFits i → 0 < left → entries' ≡ entries ++ entry_of i ∷ [] → trailer' ≡ trailer ++ tag_for name i.id
@@ -81,6 +82,7 @@ took name greatest most items entries trailer last left i more entries' trailer'
       within = omega (arith, within);
       few = omega (arith, few);
       fits = λ each. w.fits (fit, each);
+      taken_fits = λ each. w.taken_fits (subst (AllByRecursion IdFits) (sym front) (fit, each));
     }
 
 pub passed : (name : List ℕ) (greatest : Option ℕ) (most : ℕ) (items : List Item) (entries : List Entry) (trailer : List ℕ) (last : Option ℕ) (left : ℕ) (i : Item) (more : List Item)
@@ -96,6 +98,7 @@ passed name greatest most items entries trailer last left i more w is fit =
       within = omega (arith, within);
       few = w.few;
       fits = λ each. w.fits (fit, each);
+      taken_fits = λ each. w.taken_fits (subst (λ (l : List Item). AllByRecursion IdFits (take left l)) out each);
     }
 
 -- ---- its end
@@ -109,6 +112,7 @@ ended name greatest most items run left w none all shorter = record {
   trailer_is = sym (append-nil run.trailer) ∙ ap (λ (l : List ℕ). run.trailer ++ l) (sym (trailer_none name)) ∙ ap (λ (l : List Item). run.trailer ++ trailer_by name l) (sym none) ∙ w.trailer_is;
   rest_is = sym all ∙ w.behind;
   shorter = shorter;
+  taken_fit = w.taken_fits (subst (AllByRecursion IdFits) (sym none) tt);
   ids_fit = w.fits;
 }
 
@@ -127,18 +131,22 @@ all_seen name greatest most items run left w none =
 
 -- ---- whether any is taken
 
-any_by : (name : List ℕ) (g : Option ℕ) (t : Tagged) (more : List Tagged) (b c : Bool) → is_taken name g t.id ≡ b → (b || c) ≡ false → (c ≡ false → taken_from name g (items_of more) ≡ []) → taken_from name g (items_of (t ∷ more)) ≡ []
-any_by name g t more true c is none rest = absurd cc
-any_by name g t more false c is none rest = is_left_out name g (item_of t) (items_of more) is ∙ rest none
+-- the items that were looked at so far are not taken
+pub record Looked (name : List ℕ) (g : Option ℕ) (items rest : List Item) : Type 0 where
+  pub same : taken_from name g rest ≡ taken_from name g items
+  pub fits : AllByRecursion IdFits rest → AllByRecursion IdFits items
 
-pub none_taken : (name : List ℕ) (g : Option ℕ) (items : List Tagged) → list_any (λ (t : Tagged). is_taken name g t.id) items ≡ false → taken_from name g (items_of items) ≡ []
-none_taken name g [] none = taken_none name g
-none_taken name g (t ∷ more) none = any_by name g t more (is_taken name g t.id) (list_any (λ (u : Tagged). is_taken name g u.id) more) refl none (none_taken name g more)
+pub looked_begun : (name : List ℕ) (g : Option ℕ) (items : List Item) → Looked name g items items
+looked_begun name g items = record { same = refl; fits = λ each. each }
 
-some_by : (name : List ℕ) (g : Option ℕ) (t : Tagged) (more : List Tagged) (b c : Bool) → is_taken name g t.id ≡ b → (b || c) ≡ true → (c ≡ true → 0 < length (taken_from name g (items_of more))) → 0 < length (taken_from name g (items_of (t ∷ more)))
-some_by name g t more true c is some rest = let first = ap length (is_taken_next name g (item_of t) (items_of more) is) in omega (arith, first)
-some_by name g t more false c is some rest = let all = ap length (is_left_out name g (item_of t) (items_of more) is) in let some_left = rest some in omega (arith, all, some_left)
+pub looked_more : (name : List ℕ) (g : Option ℕ) (items : List Item) (i : Item) (more : List Item) → Looked name g items (i ∷ more) → is_taken name g i.id ≡ false → IdFits i → Looked name g items more
+looked_more name g items i more l is fit = record { same = sym (is_left_out name g i more is) ∙ l.same; fits = λ each. l.fits (fit, each) }
 
-pub some_taken : (name : List ℕ) (g : Option ℕ) (items : List Tagged) → list_any (λ (t : Tagged). is_taken name g t.id) items ≡ true → 0 < length (taken_from name g (items_of items))
-some_taken name g [] some = absurd cc
-some_taken name g (t ∷ more) some = some_by name g t more (is_taken name g t.id) (list_any (λ (u : Tagged). is_taken name g u.id) more) refl some (some_taken name g more)
+pub looked_taken : (name : List ℕ) (g : Option ℕ) (items : List Item) (i : Item) (more : List Item) → Looked name g items (i ∷ more) → is_taken name g i.id ≡ true → 0 < length (taken_from name g items)
+looked_taken name g items i more l is = let all = ap length (sym (is_taken_next name g i more is) ∙ l.same) in omega (arith, all)
+
+pub looked_none : (name : List ℕ) (g : Option ℕ) (items rest : List Item) → Looked name g items rest → rest ≡ [] → taken_from name g items ≡ []
+looked_none name g items rest l none = sym l.same ∙ ap (taken_from name g) none ∙ taken_none name g
+
+pub looked_fits : (name : List ℕ) (g : Option ℕ) (items rest : List Item) → Looked name g items rest → rest ≡ [] → AllByRecursion IdFits items
+looked_fits name g items rest l none = l.fits (subst (AllByRecursion IdFits) (sym none) tt)

@@ -57,4 +57,5 @@ pub record IsRun (name : List ℕ) (greatest : Option ℕ) (most : ℕ) (items :
   pub rest_is : taken_from name run.greatest (items_of run.rest.now) ≡ drop most (taken_from name greatest items)
   -- at least one item was looked at, if there is one
   pub shorter : 0 < length items → length run.rest.now < length items
+  pub taken_fit : AllByRecursion IdFits (take most (taken_from name greatest items))
   pub ids_fit : AllByRecursion IdFits (items_of run.rest.now) → AllByRecursion IdFits items

@@ -1,9 +1,9 @@
 //! Which items of an offer are taken.
 
 ghost use Rattle.std.specs.Prelude.{◌≡◌, ◌<◌, ◌^◌, [], length, position, false, IsTrue};
-ghost use Rattle.std.specs.List.{list_any};
+ghost use Rattle.std.specs.List.{AllByRecursion};
 ghost use Rattle.epoch_coordinator.specs.Offers.{is_new};
-ghost use Rattle.offer_chunks.specs.Taken.{is_empty_batch, is_taken, taken_from, items_of};
+ghost use Rattle.offer_chunks.specs.Taken.{is_empty_batch, is_taken, taken_from, items_of, IdFits};
 
 use chunk_format::Entry;
 use command_data::Tagged;
@@ -48,17 +48,18 @@ pub(crate) fn is_taken(name: &[u8], greatest: Option<u64>, id: u64) -> bool
     name.is_empty() || is_new(greatest, id)
 }
 
-/// Whether some item's id is taken.
-fn has_taken(name: &[u8], greatest: Option<u64>, items: &[Tagged]) -> bool
-    ensures { result ≡ list_any (λ t. is_taken name.now greatest t.id) items.now }
-{
-    items.iter().any(|item| is_taken(name, greatest, item.id))
-}
-
-/// Whether some item is taken. It looks at the items up to the first that is.
+/// Whether some item is taken. It looks at the items up to the first that is, or at all.
 pub fn any_taken(name: &[u8], greatest: Option<u64>, items: &[Tagged]) -> bool
     ensures some { IsTrue result → 0 < length (taken_from name.now greatest (items_of items.now)) }
     ensures none { (result ≡ false) → taken_from name.now greatest (items_of items.now) ≡ [] }
+    ensures fits { (result ≡ false) → AllByRecursion IdFits (items_of items.now) }
 {
-    has_taken(name, greatest, items)
+    let mut rest = items;
+    'items: while let Some((item, more)) = rest.split_first() {
+        if is_taken(name, greatest, item.id) {
+            return true;
+        }
+        rest = more;
+    }
+    false
 }

@@ -1,7 +1,7 @@
 use Rattle.std.proofs.Common.{◌≡◌, ◌+◌, length, refl, sym, ap, subst, ◌∙◌, arith}
 use Rattle.epoch_coordinator.specs.MemberSteps.{stamp_at}
 use Rattle.leader_offers.proofs.Lines.{some_join}
-use Rattle.leader_offers.proofs.Runs.{Laying, laying_begun, laying_more, count_fits, laid_all, counted_all, stopped_all, rest_some, rest_none}
+use Rattle.leader_offers.proofs.Runs.{Laying, laying_begun, laying_more, count_fits, laid_all, counted_all, fit_all, stopped_all, rest_some, rest_none}
 use Rattle.leader_offers.proofs.lay.lay.Goals as goal
 
 pub runs-init : goal.runs-init
@@ -30,3 +30,6 @@ returns-clause-put c = laid_all c.args.leader.now c.args.name.now c.args.greates
 
 pub returns-clause-count : goal.returns-clause-count
 returns-clause-count c = counted_all c.args.leader.now c.args.name.now c.args.greatest (stamp_at c.args.now) c.args.items.now c.runs.leader c.runs.last c.runs.rest.now c.runs.count c.runs.invariant (rest_none (length c.runs.rest.now) c.is_empty.result c.is_empty.ensures c.runs-test.false)
+
+pub returns-clause-fits : goal.returns-clause-fits
+returns-clause-fits c = fit_all c.args.leader.now c.args.name.now c.args.greatest (stamp_at c.args.now) c.args.items.now c.runs.leader c.runs.last c.runs.rest.now c.runs.count c.runs.invariant (rest_none (length c.runs.rest.now) c.is_empty.result c.is_empty.ensures c.runs-test.false)

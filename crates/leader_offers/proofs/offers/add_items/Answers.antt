@@ -11,7 +11,7 @@ pub returns-in-Err-clause-err : goal.returns-in-Err-clause-err
 returns-in-Err-clause-err c = some_same c.args.leader.now c.greatest.new.self c.requires.leads c.in-Err.ensures.same
 
 pub returns-then-not-any_taken-clause-ok : goal.returns-then-not-any_taken-clause-ok
-returns-then-not-any_taken-clause-ok c = nothing_added c.args.limits.now c.args.leader.now c.greatest.new.self c.args.name.now c.in-Ok.greatest c.args.items.now c.args.now _ c.requires.leads c.in-Ok.ensures.same c.in-Ok.ensures.greatest c.requires.whole (c.any_taken.ensures.none c.if-not-any_taken.true) c.end.ensures refl
+returns-then-not-any_taken-clause-ok c = nothing_added c.args.limits.now c.args.leader.now c.greatest.new.self c.args.name.now c.in-Ok.greatest c.args.items.now c.args.now _ c.requires.leads c.in-Ok.ensures.same c.in-Ok.ensures.greatest c.requires.whole (c.any_taken.ensures.none c.if-not-any_taken.true) c.end.ensures refl (c.any_taken.ensures.fits c.if-not-any_taken.true)
 
 pub returns-in-Err-more_references-clause-err : goal.returns-in-Err-more_references-clause-err
 returns-in-Err-more_references-clause-err c = some_same c.args.leader.now c.more_references.new.leader c.requires.leads (c.in-Err-more_references.ensures.same ∙ c.in-Ok.ensures.same)

@@ -15,4 +15,4 @@ pub returns-in-Err-check_room-clause-refused : goal.returns-in-Err-check_room-cl
 returns-in-Err-check_room-clause-refused c = offer_full c.args.limits.now c.args.leader.now c.lay.new.leader c.args.name.now c.args.greatest c.args.items.now c.args.now c.in-Err-check_room.fault c.requires.greatest c.requires.whole c.requires.names c.requires.taken c.in-Ok.ensures.put c.in-Err-check_room.ensures.full
 
 pub returns-in-Ok-check_room-clause-ok : goal.returns-in-Ok-check_room-clause-ok
-returns-in-Ok-check_room-clause-ok c = offer_added c.args.limits.now c.args.leader.now c.lay.new.leader c.args.name.now c.args.greatest c.args.items.now c.args.now c.in-Ok.accepted _ c.requires.greatest c.requires.whole c.requires.names c.in-Ok.ensures.put c.in-Ok.ensures.count c.in-Ok-check_room.ensures.bytes c.in-Ok-check_room.ensures.queue c.end.ensures refl
+returns-in-Ok-check_room-clause-ok c = offer_added c.args.limits.now c.args.leader.now c.lay.new.leader c.args.name.now c.args.greatest c.args.items.now c.args.now c.in-Ok.accepted _ c.requires.greatest c.requires.whole c.requires.names c.in-Ok.ensures.put c.in-Ok.ensures.count c.in-Ok-check_room.ensures.bytes c.in-Ok-check_room.ensures.queue c.end.ensures refl c.in-Ok.ensures.fits
