@@ -1,7 +1,9 @@
 -- Who leads.
-use Rattle.std.specs.Prelude.{ℕ, zero, suc, Bool, false, ◌&&◌, ◌==◌, nat_lt, List, length, slice_index_or}
-use Rattle.replication_laws.specs.Cluster.{ClusterState, Seat, nobody, is_opened}
+use Rattle.std.specs.Prelude.{ℕ, zero, suc, Bool, false, ◌&&◌, ◌==◌, nat_lt, List, length, slice_index_or, ◌≡◌, ◌⊎◌, true, Some, None}
+use Rattle.epoch_coordinator.specs.declared.message.Job.{Job}
+use Rattle.replication_laws.specs.Cluster.{ClusterState, Seat, nobody, is_opened, member}
 use Rattle.cluster_core.specs.Up.{is_up}
+use Rattle.cluster_core.specs.States.{ReplicaState, number_at}
 
 -- a member is up and is the opened leader of an epoch
 abbrev pub seat_leads : ℕ → Seat → Bool
@@ -15,3 +17,15 @@ place_leads epoch seats place = nat_lt place (length seats) && seat_leads epoch 
 abbrev pub is_member_up : ClusterState → ℕ → Bool
 is_member_up w zero = false
 is_member_up w (suc i) = is_up w (suc i)
+
+-- ---- jobs
+
+-- a member that is up has this job, of this number
+pub record JobShown (k number : ℕ) (job : Job) (r : ReplicaState) : Type 0 where
+  pub is_member : is_member_up r.cluster k ≡ true
+  pub is_job : (member r.cluster k).job ≡ Some job
+  pub is_number : number ≡ number_at r k
+
+-- a member isn't up, or has none
+abbrev pub HasNoJob : ℕ → ReplicaState → Type 0
+HasNoJob k r = (is_member_up r.cluster k ≡ false) ⊎ ((member r.cluster k).job ≡ None)

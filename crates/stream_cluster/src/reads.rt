@@ -1,17 +1,60 @@
 //! What a stream tells.
 
-ghost use Rattle.std.specs.Prelude.{◌≡◌, true, false, MatchOption, Some};
+ghost use Rattle.std.specs.Prelude.{◌≡◌, true, false, MatchOption, slice_index_or, None, Some};
 ghost use Rattle.chunk_format.specs.Logs.{IsLog, Truthful};
 ghost use Rattle.replication_laws.specs.Cluster.{member};
 ghost use Rattle.cluster_core.specs.Up.{is_up, running};
 ghost use Rattle.cluster_core.specs.Parts.{lettered};
 ghost use Rattle.cluster_core.specs.States.{number_at};
-ghost use Rattle.stream_cluster.specs.Leads.{is_member_up};
+ghost use Rattle.stream_cluster.specs.Leads.{is_member_up, JobShown, HasNoJob};
 
 use crate::cluster::Cluster;
+use crate::place::Place;
+use crate::replicas::Replicas;
 use chunk_format::Stored;
 use cluster_core::Numbered;
 use epoch_coordinator::Job;
+
+impl Place {
+    /// The pending job of the member, or the one that was cut off.
+    fn job(&self) -> Option<&Job>
+        ensures { MatchOption result (self.now.state.job ≡ None) (λ job. self.now.state.job ≡ Some job.now) }
+    {
+        self.member.job()
+    }
+}
+
+/// The number at a place, or 0 where there is no such place.
+fn number_in(numbers: &[u64], place: usize) -> u64
+    ensures { result ≡ slice_index_or numbers.now place 0 }
+{
+    match numbers.get(place) {
+        None => 0,
+        Some(next) => *next,
+    }
+}
+
+impl Replicas {
+    /// The number of the next job of the coordinator, number 0, or of a member, or of the one that is pending.
+    fn number_of(&self, number: u8) -> u64
+        ensures { result ≡ number_at self.now number }
+    {
+        number_in(&self.numbers[..], number as usize)
+    }
+
+    /// The pending job of a member that is up, with its number.
+    fn job(&self, number: u8) -> Option<(u64, &Job)>
+        ensures { MatchOption result (HasNoJob number self.now) (λ p. JobShown number p.0 p.1.now self.now) }
+    {
+        let Some(seat) = self.seat(number) else {
+            return None;
+        };
+        let Some(job) = seat.job() else {
+            return None;
+        };
+        Some((self.number_of(number), job))
+    }
+}
 
 impl Cluster {
     /// The number of the stream.
@@ -69,5 +112,12 @@ impl Cluster {
             None => None,
             Some(seat) => Some(seat.member.promise()),
         }
+    }
+
+    /// The pending job of a member that is up, with its number.
+    pub fn job(&self, number: u8) -> Option<(u64, &Job)>
+        ensures { MatchOption result (HasNoJob number self.now.state) (λ p. JobShown number p.0 p.1.now self.now.state) }
+    {
+        self.replicas.job(number)
     }
 }
