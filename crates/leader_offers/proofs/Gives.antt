@@ -1,6 +1,6 @@
 -- What is laid is what an offer and a stored offset give, within the limits.
-use Rattle.std.proofs.Common.{◌≡◌, ℕ, zero, suc, ◌+◌, ◌≤◌, ◌<◌, Bool, true, false, cond, nat_lt, inl, inr, List, [], ◌∷◌, ◌++◌, length, take, drop, Option, Some, None, Result, Ok, Err, IfOk, IfErr, OnErr, refl, sym, ap, subst, ◌∙◌, arith, length-append}
-use Rattle.std.specs.Prelude.{ℤ, ◌==◌, ◌⊎◌, position}
+use Rattle.std.proofs.Common.{◌≡◌, ℕ, ◌+◌, ◌≤◌, ◌<◌, Bool, true, false, cond, nat_lt, inl, inr, List, [], ◌∷◌, ◌++◌, length, take, drop, Option, Some, None, Result, IfOk, IfErr, OnErr, refl, sym, ap, subst, ◌∙◌, arith, length-append}
+use Rattle.std.specs.Prelude.{ℤ, ◌==◌, position}
 use Rattle.std.specs.List.{AllByRecursion}
 use Rattle.std.proofs.lemmas.List.{append-nil}
 use Rattle.frame_wire.specs.declared.limits.Limits.{Limits}
@@ -23,9 +23,8 @@ use Rattle.stream_terms.specs.Steps.{names_one}
 use Rattle.offer_chunks.specs.Taken.{items_of, is_empty_batch, taken_from, IdFits}
 use Rattle.leader_offers.specs.declared.put.Stop.{Stop}
 use Rattle.leader_offers.specs.declared.put.Stop.TheVariants as stops
-use Rattle.leader_offers.specs.Adds.{offer_adds, offset_adds, taken_items, HasRoom, references_of, consumers_of, new_names, references_with, consumers_with, Passes, offer_limits, offset_limits, Limited, Added, OfferAdded, OfferRefused, OffsetAdded, OffsetRefused}
-use Rattle.leader_offers.specs.Leads.{Leads, Behind, SomeBehind, Put, WhyStopped, IsStopped, IsFull, run_chunks, all_chunks}
-use Rattle.leader_offers.proofs.Lines.{none_behind}
+use Rattle.leader_offers.specs.Adds.{offer_adds, offset_adds, taken_items, HasRoom, references_of, consumers_of, new_names, references_with, consumers_with, Passes, offer_limits, Limited, Added, OfferAdded, OfferRefused, OffsetAdded, OffsetRefused}
+use Rattle.leader_offers.specs.Leads.{Leads, SomeBehind, Put, WhyStopped, IsStopped, IsFull, run_chunks, all_chunks}
 use Rattle.leader_offers.proofs.Runs.{parted}
 
 -- ---- the chunks are those of the rules

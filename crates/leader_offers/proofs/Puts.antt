@@ -3,7 +3,7 @@ use Rattle.std.proofs.Common.{◌≡◌, ℕ, ◌+◌, ◌^◌, ◌<◌, ◌≤�
 use Rattle.std.specs.Prelude.{ℤ, pos, nat_lt, ◌==◌}
 use Rattle.std.specs.Int.{w64}
 use Rattle.std.specs.Int.RustNames.{FitsSigned}
-use Rattle.std.specs.List.{All, AllByRecursion}
+use Rattle.std.specs.List.{AllByRecursion}
 use Rattle.std.proofs.lemmas.List.Elements.{All-cons, All-nil, All-head}
 use Rattle.std.proofs.Common.{to_z, of_z}
 use Rattle.std.proofs.lemmas.Int.{to_z-of_z}
@@ -20,7 +20,7 @@ use Rattle.epoch_coordinator.specs.Offers.{offset_chunk, since_snapshot, snapsho
 use Rattle.leader_offers.specs.declared.put.Stop.{Stop}
 use Rattle.leader_offers.specs.declared.put.Stop.TheVariants as stops
 use Rattle.leader_offers.specs.Adds.{HasRoom, HasRoomBy}
-use Rattle.leader_offers.specs.Leads.{Leads, Behind, SomeBehind, Put, WhyStopped, chunk_with}
+use Rattle.leader_offers.specs.Leads.{Leads, Behind, Put, WhyStopped, chunk_with}
 use Rattle.leader_offers.proofs.Lines.{one_behind, both_behind}
 
 room_by : (k : ChunkKind) (c : Chunk) → (k ≡ Snapshot → ⊥) → HasRoomBy k c → IsChunk c

@@ -1,5 +1,5 @@
 -- The items of an offer are laid run by run.
-use Rattle.std.proofs.Common.{◌≡◌, ℕ, zero, suc, ◌+◌, ◌-◌, ◌*◌, ◌/◌, ◌≤◌, ◌<◌, ◌^◌, Bool, true, false, cond, List, [], ◌∷◌, ◌++◌, length, take, drop, map, Option, Some, None, refl, sym, ap, subst, ◌∙◌, append_assoc, arith, length-drop}
+use Rattle.std.proofs.Common.{◌≡◌, ℕ, suc, ◌+◌, ◌≤◌, ◌<◌, ◌^◌, Bool, true, false, cond, List, [], ◌∷◌, ◌++◌, length, take, drop, Option, Some, refl, sym, ap, subst, ◌∙◌, append_assoc, arith, length-drop}
 use Rattle.std.specs.Prelude.{ℤ, ◌==◌}
 use Rattle.std.specs.List.{AllByRecursion}
 use Rattle.std.proofs.lemmas.List.{append-nil, length-map, length-take}
@@ -8,14 +8,14 @@ use Rattle.chunk_format.specs.declared.chunk.Chunk.{Chunk}
 use Rattle.chunk_format.specs.Logs.{end_of}
 use Rattle.command_data.specs.declared.item.Tagged.{Tagged}
 use Rattle.epoch_coordinator.specs.Members.{MemberState, sequence_of}
-use Rattle.epoch_coordinator.specs.Offers.{Item, is_new, rising_from, trailer_by, user_chunk, with_snapshot, most_entries, laid, chunk_count}
+use Rattle.epoch_coordinator.specs.Offers.{Item, is_new, rising_from, user_chunk, with_snapshot, most_entries, laid, chunk_count}
 use Rattle.offer_chunks.specs.declared.run.Run.{Run}
 use Rattle.offer_chunks.specs.Taken.{item_of, items_of, entry_of, entries_of, taken_from, IdFits, IsRun}
 use Rattle.leader_offers.specs.declared.put.Stop.{Stop}
 use Rattle.leader_offers.specs.declared.put.Stop.TheVariants as stops
 use Rattle.leader_offers.specs.declared.lay.Step.{Step}
 use Rattle.leader_offers.specs.Adds.{HasRoom}
-use Rattle.leader_offers.specs.Leads.{Leads, Behind, SomeBehind, Put, WhyStopped, chunk_with, run_chunks, all_chunks, RunLaid}
+use Rattle.leader_offers.specs.Leads.{Leads, Behind, Put, WhyStopped, chunk_with, run_chunks, all_chunks, RunLaid}
 use Rattle.leader_offers.proofs.Lines.{none_behind, both_behind}
 
 pub all_join : {X : Type 0} (P : X → Type 0) (xs ys : List X) → AllByRecursion P xs → AllByRecursion P ys → AllByRecursion P (xs ++ ys)

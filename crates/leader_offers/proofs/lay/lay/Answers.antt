@@ -1,4 +1,4 @@
-use Rattle.std.proofs.Common.{◌≡◌, ◌+◌, length, refl, sym, ap, subst, ◌∙◌, arith}
+use Rattle.std.proofs.Common.{◌+◌, length, refl, arith}
 use Rattle.epoch_coordinator.specs.MemberSteps.{stamp_at}
 use Rattle.leader_offers.proofs.Lines.{some_join}
 use Rattle.leader_offers.proofs.Runs.{Laying, laying_begun, laying_more, count_fits, laid_all, counted_all, fit_all, stopped_all, rest_some, rest_none}

@@ -1,4 +1,4 @@
-use Rattle.std.proofs.Common.{◌≡◌, ◌+◌, ◌≤◌, nat_lt, length, refl, sym, ap, subst, ◌∙◌, arith}
+use Rattle.std.proofs.Common.{◌≤◌, nat_lt, refl, sym, ap, subst, ◌∙◌, arith}
 use Rattle.epoch_coordinator.specs.Members.{MemberState, sequence_of}
 use Rattle.chunk_format.specs.ByName.{Greatest}
 use Rattle.leader_offers.specs.Leads.{Leads}

@@ -1,4 +1,4 @@
-use Rattle.std.proofs.Common.{◌≡◌, ◌+◌, length, refl, sym, ap, subst, ◌∙◌, arith}
+use Rattle.std.proofs.Common.{refl}
 use Rattle.leader_offers.proofs.Gives.{offer_added, offer_stopped, offer_full}
 use Rattle.leader_offers.proofs.offers.lay_within.Goals as goal
 

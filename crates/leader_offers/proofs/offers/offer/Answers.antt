@@ -1,4 +1,4 @@
-use Rattle.std.proofs.Common.{◌≡◌, ◌+◌, length, refl, sym, ap, subst, ◌∙◌, arith}
+use Rattle.std.proofs.Common.{sym, subst, ◌∙◌}
 use Rattle.member_core.specs.States.{Marks}
 use Rattle.leader_offers.proofs.Lines.{marked_leads, leads_open, taken_back_is}
 use Rattle.leader_offers.proofs.offers.offer.Goals as goal
