@@ -1,13 +1,15 @@
 -- Each event keeps a stream sound.
-use Rattle.std.proofs.Common.{◌≡◌, ◌<◌, ℕ, zero, suc, Bool, true, false, cond, not, ◌&&◌, ◌==◌, nat_lt, List, [], length, length-set, refl, sym, subst, arith}
+use Rattle.std.proofs.Common.{◌≡◌, ◌<◌, ◌⊎◌, ℕ, zero, suc, Bool, true, false, cond, not, ◌&&◌, ◌==◌, nat_lt, List, [], length, length-set, inl, inr, refl, sym, ap, subst, ◌∙◌, arith}
+use Rattle.std.proofs.lemmas.List.{append-nil}
 use Rattle.chunk_format.specs.declared.chunk.Chunk.{Chunk}
+use Rattle.chunk_format.specs.Logs.{GoesOn}
 use Rattle.replication_laws.specs.Cluster.{ClusterState, IsMember, seat, member}
 use Rattle.replication_laws.specs.Events.{Restart}
 use Rattle.cluster_core.specs.declared.outcome.Outcome.{Outcome}
 use Rattle.cluster_core.specs.declared.outcome.Outcome.TheVariants.{Did, Nothing, Later, Last, Differs, Memory}
 use Rattle.cluster_core.specs.States.{ReplicaState, IsStream, Happened, Goes, Gives, IfDid, elect_due, deliver_due, lose_due, done_due, stop_due, reopen_due}
 use Rattle.cluster_core.specs.Kept.{after_elect, after_deliver, after_lose, after_forget, after_nudge, after_done, after_stop, after_reopen}
-use Rattle.cluster_core.proofs.Streams.{keeps, goes_stream, goes_step, elect_goes, deliver_goes, lose_goes, forget_goes, nudge_goes, done_goes, stop_goes, reopen_goes}
+use Rattle.cluster_core.proofs.Streams.{keeps, goes_stream, goes_step, elect_goes, deliver_goes, lose_goes, forget_goes, nudge_goes, done_goes, stop_goes, reopen_goes, grows}
 use Rattle.stream_cluster.specs.declared.event.Event.{Event}
 use Rattle.stream_cluster.specs.declared.event.Event.TheVariants as events
 use Rattle.stream_cluster.specs.Restarts.{is_down, MayHave, after_restart, RestartGives}
@@ -72,3 +74,42 @@ event_goes (events.Done receipt) now result old new g h =
 event_goes (events.Stop member) now result old new g h = let r = old.state in goes_both now (stop_due member r.cluster) result r new (after_stop member r) g h (λ d. stop_goes now member r d)
 event_goes (events.Restart found) now result old new g h = restarted now found.member found.promise found.chunks result old.state new g h
 event_goes (events.Reopen epoch) now result old new g h = let r = old.state in goes_both now (reopen_due epoch r.cluster) result r new (after_reopen epoch r) g h (λ d. reopen_goes now epoch r d)
+
+-- ---- what stays, and what grows
+
+gives_kept : (due result : Outcome) (old new after : ReplicaState) → Gives due result old new after → (result ≡ Did) ⊎ (new ≡ old)
+gives_kept due Did old new after g = inl refl
+gives_kept due Nothing old new after g = inr g.1
+gives_kept due (Later n) old new after g = inr g.1
+gives_kept due (Last epoch) old new after g = inr g.1
+gives_kept due (Differs a b) old new after g = inr g.1
+gives_kept due Memory old new after g = inr g
+
+restart_kept : (k promise : ℕ) (log : List Chunk) (result : Outcome) (old new : ReplicaState) → RestartGives k promise log result old new → (result ≡ Did) ⊎ (new ≡ old)
+restart_kept k promise log Did old new g = inl refl
+restart_kept k promise log Nothing old new g = inr g.1
+restart_kept k promise log (Later n) old new g = absurd g
+restart_kept k promise log (Last epoch) old new g = absurd g
+restart_kept k promise log (Differs a b) old new g = inr g.1.1.1.1
+restart_kept k promise log Memory old new g = inr g
+
+pub event_kept : (event : Event) (now : ℕ) (result : Outcome) (old : StreamState) (new : ReplicaState) → EventGives event now result old new → (result ≡ Did) ⊎ (new ≡ old.state)
+event_kept events.Elect now result old new g = let r = old.state in gives_kept (elect_due r.cluster) result r new (after_elect r) g
+event_kept (events.Deliver number) now result old new g = let r = old.state in gives_kept (deliver_due number r.cluster) result r new (after_deliver number now r) g
+event_kept (events.Lose number) now result old new g = let r = old.state in gives_kept (lose_due number r.cluster) result r new (after_lose number r) g
+event_kept events.Forget now result old new g = let r = old.state in gives_kept Did result r new (after_forget r) g
+event_kept events.Nudge now result old new g = let r = old.state in gives_kept Did result r new (after_nudge r) g
+event_kept (events.Done receipt) now result old new g = let r = old.state in gives_kept (receipt_due receipt old) result r new (after_done receipt.member r) g
+event_kept (events.Stop member) now result old new g = let r = old.state in gives_kept (stop_due member r.cluster) result r new (after_stop member r) g
+event_kept (events.Restart found) now result old new g = restart_kept found.member found.promise found.chunks result old.state new g
+event_kept (events.Reopen epoch) now result old new g = let r = old.state in gives_kept (reopen_due epoch r.cluster) result r new (after_reopen epoch r) g
+
+-- the committed list only grows
+pub event_grows : (event : Event) (now : ℕ) (result : Outcome) (old : StreamState) (new : ReplicaState) → EventGives event now result old new → IsStream old.state.cluster → GoesOn old.state.cluster.committed new.cluster.committed
+event_grows event now result old new g h = by (event_kept event now result old new g)
+  where
+    by : (result ≡ Did) ⊎ (new ≡ old.state) → GoesOn old.state.cluster.committed new.cluster.committed
+    by (inl d) =
+        let step = subst (λ (o : Outcome). IfDid o (Happened now old.state.cluster new.cluster)) d (event_goes event now result old new g h).1 in
+        grows now old.state.cluster new.cluster h step
+    by (inr e) = ([], ap (λ (r : ReplicaState). r.cluster.committed) e ∙ sym (append-nil old.state.cluster.committed))

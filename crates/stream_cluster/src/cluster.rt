@@ -1,6 +1,7 @@
 //! One stream over its members.
 
 ghost use Rattle.std.specs.Prelude.{◌≡◌};
+ghost use Rattle.chunk_format.specs.Logs.{GoesOn};
 ghost use Rattle.cluster_core.specs.States.{IsStream, IfDid, Happened, Gives};
 ghost use Rattle.cluster_core.specs.Kept.{after_done};
 ghost use Rattle.stream_cluster.specs.Happens.{EventGives, receipt_due, numbered_state};
@@ -65,11 +66,12 @@ impl Cluster {
     /// that is to elect, has a job pending; Last where no epoch follows; Differs where a disk has what was not left on it;
     /// and Nothing where the message, the member or the job of the receipt isn't there, or the member is down for a
     /// message, an election or a stop, or up for a restart or a reopening. Else it happened, unless memory ran out. After
-    /// every outcome but Did the stream is unchanged.
+    /// every outcome but Did the stream is unchanged; the committed list only grows.
     pub fn event(&mut self, event: &Event, now: u64) -> Outcome
         ensures gives { EventGives event.now now result self.old self.new.state }
         ensures number { self.new.number ≡ self.old.number }
         ensures sound { IsStream self.new.state.cluster }
+        ensures grows { GoesOn self.old.state.cluster.committed self.new.state.cluster.committed }
         ensures step { IfDid result (Happened now self.old.state.cluster self.new.state.cluster) }
     {
         self.replicas.happen(self.stream, event, now)
