@@ -29,3 +29,13 @@ pub record JobShown (k number : ℕ) (job : Job) (r : ReplicaState) : Type 0 whe
 -- a member isn't up, or has none
 abbrev pub HasNoJob : ℕ → ReplicaState → Type 0
 HasNoJob k r = (is_member_up r.cluster k ≡ false) ⊎ ((member r.cluster k).job ≡ None)
+
+-- the coordinator is up and is to make an epoch durable, by a job of this number
+pub record EpochShown (number epoch : ℕ) (r : ReplicaState) : Type 0 where
+  pub is_there : r.cluster.coordinator_up ≡ true
+  pub is_job : r.cluster.coordinator.job ≡ Some epoch
+  pub is_number : number ≡ number_at r 0
+
+-- it isn't up, or has no job
+abbrev pub HasNoEpoch : ReplicaState → Type 0
+HasNoEpoch r = (r.cluster.coordinator_up ≡ false) ⊎ (r.cluster.coordinator.job ≡ None)

@@ -6,7 +6,7 @@ ghost use Rattle.replication_laws.specs.Cluster.{member};
 ghost use Rattle.cluster_core.specs.Up.{is_up, running};
 ghost use Rattle.cluster_core.specs.Parts.{lettered};
 ghost use Rattle.cluster_core.specs.States.{number_at};
-ghost use Rattle.stream_cluster.specs.Leads.{is_member_up, JobShown, HasNoJob};
+ghost use Rattle.stream_cluster.specs.Leads.{is_member_up, JobShown, HasNoJob, EpochShown, HasNoEpoch};
 
 use crate::cluster::Cluster;
 use crate::place::Place;
@@ -40,6 +40,19 @@ impl Replicas {
         ensures { result ≡ number_at self.now number }
     {
         number_in(&self.numbers[..], number as usize)
+    }
+
+    /// The epoch that the coordinator is to make durable, with the number of that job, while it is up.
+    fn epoch_job(&self) -> Option<(u64, u64)>
+        ensures { MatchOption result (HasNoEpoch self.now) (λ p. EpochShown p.0 p.1 self.now) }
+    {
+        if !self.coordinator_up {
+            return None;
+        }
+        match self.coordinator.job() {
+            Some(Job::Epoch(epoch)) => Some((self.number_of(0), epoch)),
+            _ => None,
+        }
     }
 
     /// The pending job of a member that is up, with its number.
@@ -119,5 +132,12 @@ impl Cluster {
         ensures { MatchOption result (HasNoJob number self.now.state) (λ p. JobShown number p.0 p.1.now self.now.state) }
     {
         self.replicas.job(number)
+    }
+
+    /// The epoch that the coordinator is to make durable, with the number of that job, while it is up: the number first.
+    pub fn epoch_job(&self) -> Option<(u64, u64)>
+        ensures { MatchOption result (HasNoEpoch self.now.state) (λ p. EpochShown p.0 p.1 self.now.state) }
+    {
+        self.replicas.epoch_job()
     }
 }
