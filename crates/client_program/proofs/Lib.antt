@@ -1,0 +1,5 @@
+mod ActLaws
+mod EndLaws
+mod InputLaws
+mod LineLaws
+mod RunLaws

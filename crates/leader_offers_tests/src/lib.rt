@@ -1,0 +1,7 @@
+//! Tests of offers to a leader.
+#![tactic(auto)]
+
+#[cfg(test)]
+mod leader;
+#[cfg(test)]
+mod offers;
