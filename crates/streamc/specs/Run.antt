@@ -17,3 +17,8 @@ abbrev pub DoesAs : Asked → ℕ → Option (List ℕ) → Option (List ℕ) �
 DoesAs a status left_old left_new written_old written_new =
     ((status ≡ 4) × (left_new ≡ left_old) × (written_new ≡ written_old))
     ⊎ ClientDoes a status left_old left_new (outside_at None None written_old) (outside_at None None written_new)
+
+-- the words ask for something, and that was done; or they ask for nothing
+abbrev pub DoesBy : List (List ℕ) → ℕ → Option (List ℕ) → Option (List ℕ) → Option (List ℕ) → Option (List ℕ) → Type 0
+DoesBy words status left_old left_new written_old written_new =
+    ((a : Asked) × AreWordsOf words a × DoesAs a status left_old left_new written_old written_new) ⊎ AskNothing words

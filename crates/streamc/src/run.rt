@@ -1,9 +1,8 @@
 //! What the program does, over any input and output.
 
 ghost use Rattle.std.specs.Prelude.{◌≡◌};
-ghost use Rattle.client_program.specs.Words.{Asked, AreWordsOf};
 ghost use Rattle.program_words.specs.Told.{Wrote};
-ghost use Rattle.streamc.specs.Run.{usage, AskNothing, DoesAs};
+ghost use Rattle.streamc.specs.Run.{usage, AskNothing, DoesBy};
 
 use client_program::{client, client_words};
 use frame_wire::Octets;
@@ -43,7 +42,7 @@ pub fn run<R: Net<Stream = TcpStream> + Wait, S: Source, K: Sink>(
     input: &mut S,
     out: &mut K,
 ) -> u8
-    ensures does { (a : Asked) → AreWordsOf words.now a → DoesAs a result (S.left input.old) (S.left input.new) (K.written out.old) (K.written out.new) }
+    ensures does { DoesBy words.now result (S.left input.old) (S.left input.new) (K.written out.old) (K.written out.new) }
     ensures status { AskNothing words.now → result ≡ 2 }
     ensures line { AskNothing words.now → Wrote usage (K.written out.old) (K.written out.new) (K.faults out.old) (K.faults out.new) }
     ensures input { AskNothing words.now → input.new ≡ input.old }
