@@ -3,6 +3,8 @@ use Rattle.std.specs.Prelude.{◌≡◌, ℕ, ◌+◌, ◌-◌, ◌^◌, ◌≤�
 use Rattle.std.specs.declared.alloc.AllocError.{AllocError}
 use Rattle.std.specs.List.{AllByRecursion}
 use Rattle.confirmed_ids.specs.declared.ranges.Range.{Range}
+use Rattle.client_terms.specs.declared.fault.EnqueueFault.{EnqueueFault}
+use Rattle.client_terms.specs.declared.fault.EnqueueFault.TheVariants.{TooLong, LastId, Memory}
 use Rattle.client_terms.specs.States.{ClientState, IsWithin}
 use Rattle.client_terms.specs.Sending.{Next, nothing, message_due}
 use Rattle.client_terms.specs.Hearing.{LearnStep}
@@ -43,3 +45,11 @@ pub record IsNext (o : Outgoing) (id : ℕ) (body : List ℕ) : Type 0 where
 abbrev pub LearnsSome : Result (Unit {0}) AllocError → List ℕ → Outgoing → Outgoing → Type 0
 LearnsSome (Ok u) ids old new = (s : ClientState) → LearnStep (posting s old) ids (posting s new)
 LearnsSome (Err e) ids old new = (heard : List ℕ) × (more : List ℕ) × (ids ≡ heard ++ more) × ((s : ClientState) → LearnStep (posting s old) heard (posting s new))
+
+-- What queueing a message answers where this id was given last: the next one. One of more than 1,000,000 bytes is too long,
+-- and its length is told; for others there is no id behind the greatest of 64 bits. Else memory may run out.
+abbrev pub Enqueues : ℕ → List ℕ → Result ℕ EnqueueFault → Type 0
+Enqueues last body (Ok id) = IsShort body × (last + 1 < 2 ^ 64) × (id ≡ last + 1)
+Enqueues last body (Err (TooLong len)) = (1000000 < length body) × (len ≡ length body)
+Enqueues last body (Err LastId) = IsShort body × (last + 1 ≡ 2 ^ 64)
+Enqueues last body (Err Memory) = IsShort body × (last + 1 < 2 ^ 64)

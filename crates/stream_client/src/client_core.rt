@@ -5,9 +5,9 @@ ghost use Rattle.command_all.specs.declared.command.Command.{Command};
 ghost use Rattle.std.specs.Option.{option_to_list};
 ghost use Rattle.client_terms.specs.States.{last_id};
 ghost use Rattle.client_terms.specs.Steps.{enqueues, creates, queries, subscribes, connects, loses, sends, takes, ClientStep};
-ghost use Rattle.client_terms.specs.declared.fault.EnqueueFault.TheVariants as faults;
 ghost use Rattle.command_reader.specs.States.{new_reader};
 ghost use Rattle.stream_client.specs.Cores.{new_core, frame_max, IsDone};
+ghost use Rattle.stream_client.specs.Outboxes.{Enqueues};
 ghost use Rattle.stream_client.specs.Sends.{AreBytesOf};
 ghost use Rattle.stream_client.specs.Feeds.{HearsNext, HearsAll, Feeds, told};
 
@@ -77,9 +77,7 @@ impl ClientCore {
     /// after the id 18,446,744,073,709,551,615.
     pub fn enqueue(&mut self, body: &[u8]) -> Result<u64, EnqueueFault>
         ensures step { OnOk result (ClientStep self.old.client (enqueues body.now) None self.new.client) }
-        ensures id { IfOk result (λ id. id ≡ last_id self.old.client + 1) }
-        ensures too_long { (result ≡ Err (faults.TooLong (length body.now))) ↔ (1000000 < length body.now) }
-        ensures last_id { (result ≡ Err faults.LastId) ↔ ((length body.now ≤ 1000000) × (last_id self.old.client + 1 ≡ 2 ^ 64)) }
+        ensures answer { Enqueues (last_id self.old.client) body.now result }
         ensures reader { self.new.reader ≡ self.old.reader }
         ensures err { OnErr result (self.new ≡ self.old) }
     {

@@ -6,8 +6,7 @@ ghost use Rattle.client_terms.specs.States.{ClientState};
 ghost use Rattle.client_terms.specs.Sending.{is_empty};
 ghost use Rattle.stream_client.specs.Dues.{next_of, IfPublishes};
 ghost use Rattle.client_terms.specs.Hearing.{LearnStep};
-ghost use Rattle.stream_client.specs.Outboxes.{posting, message_in, IsNext, LearnsSome};
-ghost use Rattle.client_terms.specs.declared.fault.EnqueueFault.TheVariants as faults;
+ghost use Rattle.stream_client.specs.Outboxes.{posting, message_in, Enqueues, IsNext, LearnsSome};
 
 use crate::due::Due;
 use crate::queue::Queue;
@@ -76,9 +75,7 @@ impl Outbox {
     #[tactic(auto, using(crate::proofs::Posting::kept_push))]
     pub fn enqueue(&mut self, body: &[u8]) -> Result<u64, EnqueueFault>
         ensures queued { OnOk result (self.new ≡ record self.old { queue = self.old.queue ++ body.now ∷ [] }) }
-        ensures id { IfOk result (λ id. id ≡ self.old.confirmed + length self.old.queue + 1) }
-        ensures too_long { (result ≡ Err (faults.TooLong (length body.now))) ↔ (1000000 < length body.now) }
-        ensures last_id { (result ≡ Err faults.LastId) ↔ ((length body.now ≤ 1000000) × (self.old.confirmed + length self.old.queue + 1 ≡ 2 ^ 64)) }
+        ensures answer { Enqueues (self.old.confirmed + length self.old.queue) body.now result }
         ensures err { OnErr result (self.new ≡ self.old) }
     {
         let len = body.len();
