@@ -1,0 +1,4 @@
+pub mod Serials
+pub mod Waiting
+pub mod Steps
+pub mod Moving
