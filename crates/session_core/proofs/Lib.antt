@@ -4,3 +4,6 @@ pub mod Standing
 pub mod Parting
 pub mod Asking
 pub mod Answering
+pub mod Leading
+pub mod PollLaws
+pub mod PollParts

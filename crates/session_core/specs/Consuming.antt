@@ -35,7 +35,7 @@ tells t w response = replies t (subscribe_reply w response)
 
 -- the subscription, and the name of its stream
 abbrev pub with_subscription : Wish → Subscription → Tables → Tables
-with_subscription w s t = put_slot w.id (Some s) (record t { streams = with_stream s.stream (name_of w.stream) t.streams })
+with_subscription w s t = put_slot w.id (Some s) (record t { streams = with_stream s.stream w.stream t.streams })
 
 abbrev pub one_with : Wish → ℕ → ℕ → ℕ → Option ℕ → Subscription
 one_with w stream epoch next single = record { stream = stream; epoch = epoch; next = next; credit = w.credit; single = single; update = None }

@@ -7,3 +7,10 @@ pub mod Commands
 pub mod Living
 pub mod Feeding
 pub mod Joins
+pub mod Speaking
+pub mod Confirming
+pub mod Ending
+pub mod Turning
+pub mod Delivering
+pub mod Polling
+pub mod Delivered

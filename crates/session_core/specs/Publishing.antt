@@ -31,7 +31,7 @@ use Rattle.session_core.specs.Ends.{replies, answers, is_quiet, stream_of}
 abbrev pub with_publisher : ℕ → Pass → Words → Words → Tables → Tables
 with_publisher id pass reference stream t = record t {
   publishers = t.publishers ++ record { id = id; pass = pass; reference = name_of reference } ∷ [];
-  streams = with_stream pass.stream (name_of stream) t.streams;
+  streams = with_stream pass.stream stream t.streams;
 }
 
 abbrev pub declared : Tables → ℕ → ℕ → Words → Words → Result Pass DeclareFault → Program Outcome

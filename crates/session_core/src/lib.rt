@@ -1,24 +1,32 @@
 //! One connection: its commands and their answers, over any hub.
 #![tactic(auto)]
 
+mod confirming;
 mod consuming;
+mod delivering;
+mod ending;
 mod feeding;
 mod laws;
 mod living;
 mod offsets;
+mod polling;
 mod publishing;
 mod serving;
 mod streams;
 mod subscribing;
+mod turning;
+mod unasked;
 
 pub use consuming::{Wish, add_credit, answer_update, take_update, unsubscribe};
 pub use feeding::answer_all;
 pub use laws::pieces_join;
 pub use living::{end, end_link, tick};
 pub use offsets::{query_offset, store_offset, stream_stats, take_offset};
+pub use polling::{deliveries_join, poll};
 pub use publishing::{declare, delete_publisher, publish, query_sequence};
 pub use serving::{serve, serve_admin, serve_data, take_any, take_data};
 pub use streams::{
     create, create_super, delete, delete_super, exchange_versions, metadata, partitions, route,
 };
 pub use subscribing::subscribe;
+pub use unasked::Unasked;

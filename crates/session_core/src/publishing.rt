@@ -48,7 +48,7 @@ pub(crate) fn keep(
     ensures { OnOk result (tables.new ≡ with_publisher id pass reference.now stream.now tables.old) }
 {
     tables.publishers.declare(id, pass, bytes_of(reference))?;
-    tables.streams.know(pass.stream, bytes_of(stream))
+    tables.streams.know(pass.stream, stream)
 }
 
 /// Declares a publisher on a stream of which an epoch runs.

@@ -43,9 +43,7 @@ fn one_with(wish: &Wish, stream: u32, epoch: u64, next: u64, single: Option<u32>
 fn keep(tables: &mut Tables, wish: &Wish, subscription: Subscription) -> Result<(), AllocError>
     ensures { OnOk result (tables.new ≡ with_subscription wish.now subscription tables.old) }
 {
-    tables
-        .streams
-        .know(subscription.stream, bytes_of(&wish.stream))?;
+    tables.streams.know(subscription.stream, &wish.stream)?;
     let id = wish.id;
     tables.put(id as usize, subscription);
     Ok(())

@@ -1,5 +1,5 @@
 -- The publishers of a session.
-use Rattle.std.specs.Prelude.{ℕ, Bool, true, false, ◌==◌, ◌&&◌, not, nat_lt, List, length, filter, if◌then◌else◌}
+use Rattle.std.specs.Prelude.{ℕ, Bool, true, false, ◌==◌, ◌&&◌, not, nat_lt, List, length, filter, Option, Some, None, if◌then◌else◌}
 use Rattle.std.specs.List.{list_any}
 use Rattle.chunk_format.specs.ByName.{same_name}
 use Rattle.stream_terms.specs.declared.terms.Pass.{Pass}
@@ -19,6 +19,17 @@ leave p = (p.pass, nat_lt 0 (length p.reference))
 
 abbrev pub without_publisher : ℕ → List Publisher → List Publisher
 without_publisher id ps = filter (λ (p : Publisher). not (p.id == id)) ps
+
+-- of this stream, and of another epoch than the one that runs there, if one does
+abbrev pub is_over : ℕ → Option ℕ → ℕ → ℕ → Bool
+is_over stream None on epoch = on == stream
+is_over stream (Some running) on epoch = (on == stream) && not (epoch == running)
+
+abbrev pub publisher_over : ℕ → Option ℕ → Publisher → Bool
+publisher_over stream running p = is_over stream running p.pass.stream p.pass.epoch
+
+abbrev pub without_ended : ℕ → Option ℕ → List Publisher → List Publisher
+without_ended stream running ps = filter (λ (p : Publisher). not (publisher_over stream running p)) ps
 
 -- a reference may have at most 255 bytes, and one that isn't empty stands once on a stream
 abbrev pub is_refused : ℕ → ℕ → List ℕ → List Publisher → Bool

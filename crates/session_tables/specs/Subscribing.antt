@@ -1,5 +1,5 @@
 -- The streams and the subscriptions of a session.
-use Rattle.std.specs.Prelude.{ℕ, ◌+◌, ◌-◌, ◌^◌, ◌==◌, Bool, true, false, ◌&&◌, nat_le, min, List, [], ◌∷◌, ◌++◌, length, codes, Option, Some, None, slice_index_or, slice_set, replicate, find, if◌then◌else◌}
+use Rattle.std.specs.Prelude.{ℕ, ◌+◌, ◌-◌, ◌^◌, ◌==◌, Bool, true, false, ◌&&◌, nat_le, nat_lt, min, List, [], ◌∷◌, ◌++◌, length, codes, Option, Some, None, slice_index_or, slice_set, insert, replicate, position, find, if◌then◌else◌}
 use Rattle.std.specs.List.{list_any}
 use Rattle.chunk_format.specs.ByName.{same_name}
 use Rattle.command_fields.specs.declared.property.Property.{Property}
@@ -17,9 +17,20 @@ is_text bytes (Some other) = same_name other bytes
 abbrev pub is_stream : ℕ → StreamName → Bool
 is_stream stream known = known.stream == stream
 
--- a stream is kept once, under the first name by which it was asked for
-abbrev pub with_stream : ℕ → List ℕ → List StreamName → List StreamName
-with_stream stream name known = if list_any (is_stream stream) known then known else known ++ record { stream = stream; name = name } ∷ []
+-- a stream of a greater number
+abbrev pub is_past : ℕ → StreamName → Bool
+is_past stream known = nat_lt stream known.stream
+
+-- before the stream of a place, or behind all
+abbrev pub put_before : Option ℕ → StreamName → List StreamName → List StreamName
+put_before None one known = known ++ one ∷ []
+put_before (Some place) one known = insert known place one
+
+-- a stream is kept once, under the first name by which it was asked for, before the first stream of a greater number
+abbrev pub with_stream : ℕ → Option (List ℕ) → List StreamName → List StreamName
+with_stream stream name known =
+    if list_any (is_stream stream) known then known
+    else put_before (position (is_past stream) known) (record { stream = stream; name = name }) known
 
 -- ---- the properties of a subscription: of two with one key the first counts
 

@@ -12,7 +12,7 @@ mod text;
 pub use command_all::Identity;
 pub use moments::{Moments, Pulse};
 pub use opening::{close, open, part};
-pub use publishers::{Publisher, Publishers};
+pub use publishers::{Publisher, Publishers, is_over};
 pub use reply::{Reply, Request};
 pub use streams::{StreamName, Streams};
 pub use tables::{SessionEnd, Stage, Subscription, Tables};

@@ -3,7 +3,7 @@
 ghost use Rattle.std.specs.Prelude.{◌≡◌, ◌++◌, ◌∷◌, [], OnOk, OnErr};
 ghost use Rattle.std.specs.List.{list_any, find};
 ghost use Rattle.std.specs.Option.{option_map};
-ghost use Rattle.session_tables.specs.Publishing.{has_id, refers, leave, without_publisher, is_refused};
+ghost use Rattle.session_tables.specs.Publishing.{has_id, refers, leave, without_publisher, is_over, without_ended, is_refused};
 ghost use Rattle.session_tables.specs.declared.publishers.Publisher.{Publisher};
 
 use crate::text::is_same;
@@ -11,6 +11,17 @@ use frame_wire::Octets;
 use std::alloc::{AllocError, Global};
 use std::marker::Model;
 use stream_terms::Pass;
+
+/// Whether what was begun on a stream in an epoch is over: it is of the first stream named, and of another epoch than the one
+/// that runs there, if one does.
+pub fn is_over(stream: u32, running: Option<u64>, on: u32, epoch: u64) -> bool
+    ensures { result ≡ is_over stream running on epoch }
+{
+    match running {
+        None => on == stream,
+        Some(running) => on == stream && epoch != running,
+    }
+}
 
 /// A publisher that was declared.
 #[derive(Debug, Drop)]
@@ -118,5 +129,24 @@ impl Publishers {
         ensures { self.new ≡ without_publisher id self.old }
     {
         self.list.retain(|publisher| publisher.id != id);
+    }
+
+    /// The publishers, in the order of their declarations.
+    pub fn as_slice(&self) -> &[Publisher]
+        ensures { result.now ≡ self.now }
+    {
+        self.list.as_slice()
+    }
+
+    /// Lets those on a stream go whose epoch isn't the one that runs there, if one does.
+    pub fn end(&mut self, stream: u32, running: Option<u64>)
+        ensures { self.new ≡ without_ended stream running self.old }
+    {
+        self.list.retain(|publisher| !is_over(
+            stream,
+            running,
+            publisher.pass.stream,
+            publisher.pass.epoch,
+        ));
     }
 }

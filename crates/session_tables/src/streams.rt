@@ -1,11 +1,11 @@
 //! The names of the streams that a session uses.
 
-ghost use Rattle.std.specs.Prelude.{◌≡◌, ◌++◌, ◌∷◌, [], OnOk, OnErr};
+ghost use Rattle.std.specs.Prelude.{◌≡◌, ◌<◌, [], length, position, IfSome, OnOk, OnErr};
 ghost use Rattle.std.specs.List.{list_any};
-ghost use Rattle.session_tables.specs.Subscribing.{is_stream, with_stream};
+ghost use Rattle.session_tables.specs.Subscribing.{is_stream, is_past, put_before, with_stream};
 ghost use Rattle.session_tables.specs.declared.streams.StreamName.{StreamName};
 
-use frame_wire::Octets;
+use frame_wire::Text;
 use std::alloc::{AllocError, Global};
 use std::marker::Model;
 
@@ -13,10 +13,10 @@ use std::marker::Model;
 #[derive(Debug, Drop)]
 pub struct StreamName {
     pub stream: u32,
-    pub name: Octets,
+    pub name: Text,
 }
 
-/// The streams on which a session declared publishers or subscriptions, each once.
+/// The streams on which a session declared publishers or subscriptions, each once, by their numbers.
 #[derive(Debug, Drop)]
 pub struct Streams {
     alloc: Global,
@@ -50,16 +50,47 @@ impl Streams {
         self.list.iter().any(|known| known.stream == stream)
     }
 
+    /// The place of the first stream of a greater number.
+    fn place(&self, stream: u32) -> Option<usize>
+        ensures is { result ≡ position (is_past stream) self.now }
+        ensures inside { IfSome result (λ place. place < length self.now) }
+    {
+        self.list.iter().position(|known| stream < known.stream)
+    }
+
+    /// Adds a stream before those of greater numbers.
+    fn add(&mut self, one: StreamName) -> Result<(), AllocError>
+        ensures ok { OnOk result (self.new ≡ put_before (position (is_past one.stream) self.old) one self.old) }
+        ensures err { OnErr result (self.new ≡ self.old) }
+    {
+        match self.place(one.stream) {
+            None => {
+                self.list.push(one)?;
+                Ok(())
+            }
+            Some(place) => {
+                self.list.insert(place, one)?;
+                Ok(())
+            }
+        }
+    }
+
     /// Keeps the name of a stream that isn't known. Want of memory leaves all as it was.
-    pub fn know(&mut self, stream: u32, name: &[u8]) -> Result<(), AllocError>
+    pub fn know(&mut self, stream: u32, name: &Text) -> Result<(), AllocError>
         ensures ok { OnOk result (self.new ≡ with_stream stream name.now self.old) }
         ensures err { OnErr result (self.new ≡ self.old) }
     {
         if self.has(stream) {
             return Ok(());
         }
-        let name = Octets::copy(self.alloc, name)?;
-        self.list.push(StreamName { stream, name })?;
-        Ok(())
+        let name = name.clone()?;
+        self.add(StreamName { stream, name })
+    }
+
+    /// The streams, by their numbers.
+    pub fn as_slice(&self) -> &[StreamName]
+        ensures { result.now ≡ self.now }
+    {
+        self.list.as_slice()
     }
 }
