@@ -2,3 +2,4 @@ pub mod Beating
 pub mod Publishing
 pub mod Subscribing
 pub mod Opening
+pub mod Spelling

@@ -1,6 +1,0 @@
-use Rattle.frame_wire.specs.Fields.{IsText}
-use Rattle.session_spelling.proofs.Rows.{SeenSo}
-use Rattle.session_spelling.proofs.words.see_texts.Given as goal
-
-abbrev pub invariant-names : goal.invariant-names
-invariant-names l = SeenSo IsText l.fn.names l.name-index

@@ -1,6 +1,0 @@
-use Rattle.session_spelling.specs.Spelling.{version_of}
-use Rattle.session_spelling.proofs.Rows.{MadeSo}
-use Rattle.session_spelling.proofs.words.versions.Given as goal
-
-abbrev pub invariant-keys : goal.invariant-keys
-invariant-keys l = MadeSo version_of l.fn.keys l.key-index l.row
