@@ -7,10 +7,9 @@ use Rattle.chunk_format.specs.declared.entry.Entry.{Entry}
 use Rattle.chunk_format.specs.declared.chunk.Chunk.{Chunk}
 use Rattle.chunk_format.specs.declared.chunk.Header.{Header}
 use Rattle.chunk_format.specs.declared.fault.ChunkFault.{ChunkFault}
-use Rattle.chunk_format.specs.declared.decode.ReadChunk.{ReadChunk}
 use Rattle.chunk_format.specs.Chunks.{entry_records, records_of}
 use Rattle.chunk_format.specs.Faults.{BeginsWith, ChunkWrong}
-use Rattle.chunk_format.specs.Reads.{Reads}
+use Rattle.chunk_apart.specs.Apart.{ReadsApart}
 use Rattle.client_terms.specs.declared.fault.ClientFault.{ClientFault}
 use Rattle.client_terms.specs.declared.fault.ClientFault.TheVariants as faults
 use Rattle.client_terms.specs.declared.terms.Received.{Received}
@@ -79,8 +78,8 @@ arriving_front old out new wanted first offset entries left a same = ap (λ (l :
 
 -- ---- a chunk
 
-pub opened : (bytes : List ℕ) (read : ReadChunk) → Reads bytes (Ok read) → ReadsChunk bytes (Ok read.chunk)
-opened bytes read is = (read.used, is)
+pub opened : (bytes : List ℕ) (chunk : Chunk) → ReadsApart bytes (Ok chunk) → ReadsChunk bytes (Ok chunk)
+opened bytes chunk is = is
 
 pub not_opened : (bytes : List ℕ) (fault : ChunkFault) → ChunkWrong bytes fault → IsNoChunk bytes (faults.Chunk fault)
 not_opened bytes fault wrong = (fault, wrong, refl)

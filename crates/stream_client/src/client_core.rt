@@ -1,6 +1,6 @@
 //! A client without its connection.
 
-ghost use Rattle.std.specs.Prelude.{◌≡◌, ◌↔◌, ◌+◌, ◌^◌, ◌<◌, ◌≤◌, ◌++◌, length, Ok, Err, Option, None, IsTrue, IsOk, OnOk, OnErr, IfOk};
+ghost use Rattle.std.specs.Prelude.{◌≡◌, ◌↔◌, ◌+◌, ◌≤◌, ◌++◌, length, Ok, Err, Option, None, IsTrue, IsOk, OnOk, OnErr, IfOk};
 ghost use Rattle.command_all.specs.declared.command.Command.{Command};
 ghost use Rattle.std.specs.Option.{option_to_list};
 ghost use Rattle.client_terms.specs.States.{last_id};

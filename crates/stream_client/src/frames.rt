@@ -1,6 +1,6 @@
 //! The frames of a client. Each call fails for want of memory alone.
 
-ghost use Rattle.std.specs.Prelude.{◌≡◌, ◌≤◌, ◌+◌, ◌∷◌, [], length, codes, None, Some, IfOk};
+ghost use Rattle.std.specs.Prelude.{◌≡◌, ◌∷◌, [], codes, None, Some, IfOk};
 ghost use Rattle.chunk_format.specs.declared.entry.Entry.TheVariants.{Simple};
 ghost use Rattle.command_data.specs.declared.command.DataCommand.TheVariants as data_commands;
 ghost use Rattle.command_admin.specs.declared.command.AdminCommand.TheVariants as admin_commands;

@@ -1,6 +1,6 @@
 //! Hears the frames of a server.
 
-ghost use Rattle.std.specs.Prelude.{◌≡◌, ◌+◌, ◌<◌};
+ghost use Rattle.std.specs.Prelude.{◌≡◌, ◌<◌};
 ghost use Rattle.client_terms.specs.Hearing.{answer, confirm, error, delivery, uncredited, update, tune, means, meaning, confirms, refused, granted, judged, is_answer, key_of_request};
 ghost use Rattle.client_terms.specs.declared.terms.Request.TheVariants.{QueryPublisherSequence};
 ghost use Rattle.stream_client.specs.Cores.{state_of, awaited_by};

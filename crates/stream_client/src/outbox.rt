@@ -1,6 +1,6 @@
 //! The messages of a client that aren't confirmed.
 
-ghost use Rattle.std.specs.Prelude.{◌≡◌, ◌↔◌, ◌+◌, ◌^◌, ◌<◌, ◌≤◌, ◌++◌, ◌∷◌, [], length, Err, OnOk, OnErr, IfOk};
+ghost use Rattle.std.specs.Prelude.{◌≡◌, ◌+◌, ◌<◌, ◌≤◌, ◌++◌, ◌∷◌, [], length, Err, OnOk, OnErr};
 ghost use Rattle.confirmed_ids.specs.Ids.{AreApart};
 ghost use Rattle.client_terms.specs.States.{ClientState};
 ghost use Rattle.client_terms.specs.Sending.{is_empty};

@@ -1,6 +1,6 @@
 //! Deliveries.
 
-ghost use Rattle.std.specs.Prelude.{◌≡◌, ◌+◌, ◌^◌, ◌<◌, ◌++◌, ◌∷◌, [], length, take, OnOk, OnErr, IfOk};
+ghost use Rattle.std.specs.Prelude.{◌≡◌, ◌+◌, ◌^◌, ◌<◌, ◌++◌, ◌∷◌, [], length, take, OnOk, OnErr};
 ghost use Rattle.chunk_format.specs.Chunks.{entry_records, records_of};
 ghost use Rattle.client_terms.specs.States.{wanted_from};
 ghost use Rattle.client_terms.specs.Hearing.{delivered, delivered_bytes, received_at, received_from, told_last};
@@ -10,10 +10,10 @@ ghost use Rattle.stream_client.specs.Receipts.{ReadsChunk, with_delivery, with_e
 
 use crate::client::Client;
 use crate::queue::Queue;
-use chunk_format::{Chunk, ChunkError, Entry, Header, decode_chunk, put_header};
+use chunk_apart::read_apart;
+use chunk_format::{Chunk, ChunkError, Entry, Header};
 use client_terms::{ClientFault, Received};
 use command_fields::OffsetSpec;
-use frame_wire::Octets;
 use std::alloc::{AllocError, Global};
 use std::collections::VecDeque;
 
@@ -131,39 +131,15 @@ fn add_chunk(out: &mut Queue<Received>, wanted: u64, chunk: Chunk) -> Result<(),
     }
 }
 
-/// The 48 bytes of a delivery's header, without a trailer, and its payload.
-fn delivered_bytes(alloc: Global, header: &Header, payload: &[u8]) -> Result<Octets, AllocError>
-    ensures { IfOk result (λ bytes. bytes ≡ delivered_bytes header.now payload.now) }
-{
-    let mut out = Octets::new(alloc);
-    let bare = Header {
-        trailer_len: 0,
-        ..*header
-    };
-    put_header(&mut out, &bare)?;
-    out.push_slice(payload)?;
-    Ok(out)
-}
-
-/// The chunk that the bytes are, or the first check that fails.
-#[tactic(auto, using(crate::proofs::Arrivals::opened, crate::proofs::Arrivals::not_opened))]
-fn open_chunk(alloc: Global, bytes: &[u8]) -> Result<Chunk, ClientFault>
-    ensures { ReadsChunk bytes.now result }
-{
-    match decode_chunk(alloc, bytes) {
-        Ok(read) => Ok(read.chunk),
-        Err(ChunkError::Fault(fault)) => Err(ClientFault::Chunk(fault)),
-        Err(ChunkError::Memory) => Err(ClientFault::Memory),
-    }
-}
-
 /// The chunk of a delivery, or the first check that fails.
+#[tactic(auto, using(crate::proofs::Arrivals::opened, crate::proofs::Arrivals::not_opened))]
 fn read_chunk(alloc: Global, header: &Header, payload: &[u8]) -> Result<Chunk, ClientFault>
     ensures { ReadsChunk (delivered_bytes header.now payload.now) result }
 {
-    match delivered_bytes(alloc, header, payload) {
-        Ok(bytes) => open_chunk(alloc, bytes.as_slice()),
-        Err(_) => Err(ClientFault::Memory),
+    match read_apart(alloc, header, payload) {
+        Ok(chunk) => Ok(chunk),
+        Err(ChunkError::Fault(fault)) => Err(ClientFault::Chunk(fault)),
+        Err(ChunkError::Memory) => Err(ClientFault::Memory),
     }
 }
 

@@ -1,11 +1,10 @@
 //! Sends what is due.
 
-ghost use Rattle.std.specs.Prelude.{◌≡◌, ◌<◌, ◌+◌, length, IfOk};
+ghost use Rattle.std.specs.Prelude.{◌≡◌, IfOk};
 ghost use Rattle.command_all.specs.Commands.{IsFrame};
 ghost use Rattle.client_terms.specs.States.{next_corr};
-ghost use Rattle.client_terms.specs.Sending.{credit, tunes, asks, publishes, due, frame_of_request, stage_behind};
+ghost use Rattle.client_terms.specs.Sending.{credit, tunes, asks, due, frame_of_request, stage_behind};
 ghost use Rattle.stream_client.specs.Cores.{state_of};
-ghost use Rattle.stream_client.specs.Outboxes.{IsNext};
 ghost use Rattle.stream_client.specs.Sends.{Sends};
 
 use crate::asking::due;
