@@ -4,6 +4,7 @@ pub mod Standing
 pub mod Parting
 pub mod Asking
 pub mod Answering
+pub mod Saying
 pub mod Leading
 pub mod PollLaws
 pub mod PollParts

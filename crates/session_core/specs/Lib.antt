@@ -4,6 +4,7 @@ pub mod Consuming
 pub mod Offsets
 pub mod Streams
 pub mod Commands
+pub mod Saying
 pub mod Living
 pub mod Feeding
 pub mod Joins
