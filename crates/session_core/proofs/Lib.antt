@@ -7,4 +7,5 @@ pub mod Answering
 pub mod Saying
 pub mod Leading
 pub mod PollLaws
+pub mod Silence
 pub mod PollParts

@@ -14,4 +14,5 @@ pub mod Ending
 pub mod Turning
 pub mod Delivering
 pub mod Polling
+pub mod Silence
 pub mod Delivered
