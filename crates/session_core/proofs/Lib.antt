@@ -8,4 +8,5 @@ pub mod Saying
 pub mod Leading
 pub mod PollLaws
 pub mod Silence
+pub mod Causes
 pub mod PollParts

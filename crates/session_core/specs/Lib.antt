@@ -15,4 +15,5 @@ pub mod Turning
 pub mod Delivering
 pub mod Polling
 pub mod Silence
+pub mod Causes
 pub mod Delivered

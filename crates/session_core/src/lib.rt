@@ -25,7 +25,7 @@ pub use living::{end, end_link, tick};
 pub use offsets::{query_offset, store_offset, stream_stats, take_offset};
 pub use polling::{deliveries_join, poll};
 pub use publishing::{declare, delete_publisher, publish, query_sequence};
-pub use saying_laws::{replies_are_sayable, silence_is_exact};
+pub use saying_laws::{replies_are_sayable, said_is_called_for, silence_is_exact};
 pub use serving::{serve, serve_admin, serve_data, take_any, take_data};
 pub use streams::{
     create, create_super, delete, delete_super, exchange_versions, metadata, partitions, route,

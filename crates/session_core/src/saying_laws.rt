@@ -1,5 +1,6 @@
 //! What holds of what a session says.
 
+ghost use Rattle.session_core.specs.Causes.{SaidIsCalledFor};
 ghost use Rattle.session_core.specs.Saying.{RepliesAreSayable};
 ghost use Rattle.session_core.specs.Silence.{SilenceIsExact};
 
@@ -13,4 +14,10 @@ pub fn replies_are_sayable<H: Hub>()
 /// A poll says nothing exactly where nothing is due, and then it changes nothing. It does nothing.
 pub fn silence_is_exact<H: Hub>()
     ensures { SilenceIsExact H.meaning }
+{}
+
+/// Where a poll tells of a stream, an epoch of the session's publishers or subscriptions ended there, and where it asks a
+/// consumer to turn, its group changed. It does nothing.
+pub fn said_is_called_for<H: Hub>()
+    ensures { SaidIsCalledFor H.meaning }
 {}
