@@ -79,6 +79,7 @@ any_filtered {A} p q (x ∷ xs) is =
       | true ↦ λ e. either_way (p x) (list_any p (filter q xs)) (list_any p xs) (any_filtered p q xs) e
       | false ↦ λ e. or_right (p x) (list_any p xs) (any_filtered p q xs e)
     ] is
+
 over_had : (stream : ℕ) (running : Option ℕ) (old new : Option Subscription) → SlotHad old new → slot_over stream running new ≡ true → slot_over stream running old ≡ true
 over_had stream running old None had is = absurd (cc is)
 over_had stream running old (Some new) (s, was, only) is =

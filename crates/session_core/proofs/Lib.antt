@@ -1,6 +1,9 @@
 pub mod Declarations
 pub mod Joining
 pub mod Standing
+pub mod Wording
+pub mod Sessions
+pub mod Timing
 pub mod Parting
 pub mod Asking
 pub mod Answering

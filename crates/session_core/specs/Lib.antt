@@ -17,3 +17,5 @@ pub mod Polling
 pub mod Silence
 pub mod Causes
 pub mod Delivered
+pub mod Sessions
+pub mod Preparing
