@@ -27,13 +27,15 @@ use Rattle.command_reader.specs.States.{ReaderState, Gives, GivesCommand}
 use Rattle.command_reader.specs.declared.reader.Next.{Next}
 use Rattle.command_reader.specs.declared.reader.Next.TheVariants as answers
 use Rattle.hub_terms.specs.Meaning.{HubMeaning, HasSpelling}
+use Rattle.session_tables.specs.Spelling.{frames_of, some_frames, all_frames}
 use Rattle.session_tables.specs.declared.reply.Reply.{Reply}
 use Rattle.session_tables.specs.declared.tables.SessionEnd.{SessionEnd}
 use Rattle.session_tables.specs.declared.tables.Tables.{Tables}
 use Rattle.session_core.specs.Commands.{HasFewItems, IsTaken}
-use Rattle.session_core.specs.Feeding.{CommandStep, CommandSteps, Answered, Closing, Fed, Partly, Ended, Unspelt, TooLarge, Adds, AddsStep, AddsClose}
+use Rattle.session_core.specs.Feeding.{CommandStep, CommandSteps, Answered, Closing, Fed, Partly, Ended, Unspelt, TooLarge, IsFramed, Adds, AddsStep, AddsClose, IsReading}
 use Rattle.session_core.proofs.Parting.{steps_join}
 use Rattle.session_core.proofs.Standing.{closed_ends}
+use Rattle.session_core.proofs.Wording.{frames_one, frames_some, frames_behind}
 
 -- ---- a command of a frame that is small enough is taken
 
@@ -56,8 +58,11 @@ pub taken_of : (command : Command) (body : List ℕ) → Spells command body →
 taken_of (Data command) body spells short = few_items command body spells short
 taken_of (Admin command) body spells short = tt
 
-pub given_taken : (old new : ReaderState) (command : Command) → old.max ≤ 1048576 → GivesCommand old command new → IsTaken command
-given_taken old new command small given = let fits = given.frame.fits in taken_of command given.frame.body given.spells (omega arith)
+pub framed_taken : (command : Command) → IsFramed command → IsTaken command
+framed_taken command framed = taken_of command framed.body framed.spells framed.small
+
+pub given_framed : (old new : ReaderState) (command : Command) → old.max ≤ 1048576 → GivesCommand old command new → IsFramed command
+given_framed old new command small given = let fits = given.frame.fits in record { body = given.frame.body; spells = given.spells; small = omega (arith, fits, small) }
 
 -- ---- an answer of the reader
 
@@ -87,14 +92,14 @@ is_over t how is none = absurd (cc (sym is ∙ none))
 -- ---- turns
 
 -- what was answered so far, and that the session stands
-pub record SoFar {S : Type 0} (m : HubMeaning S) (who : Identity) (now max : ℕ) (bytes : List ℕ) (old : Tables) (out0 out1 : List Reply) (new : Tables) (reader : ReaderState) (h0 h1 : S) : Type 0 where
+pub record SoFar {S : Type 0} (m : HubMeaning S) (who : Identity) (now max : ℕ) (bytes : List ℕ) (old : Tables) (out0 out1 : List ℕ) (new : Tables) (reader : ReaderState) (h0 h1 : S) : Type 0 where
   pub said : List Reply
-  pub wrote : out1 ≡ out0 ++ said
+  pub wrote : out1 ≡ out0 ++ all_frames who said
   pub answered : Answered m who now max bytes old said new reader.rest h0 h1
   pub stands : new.ended ≡ None
   pub same_max : reader.max ≡ max
 
-pub begins : {S : Type 0} (m : HubMeaning S) (who : Identity) (now : ℕ) (old : Tables) (out : List Reply) (reader : ReaderState) (h : S)
+pub begins : {S : Type 0} (m : HubMeaning S) (who : Identity) (now : ℕ) (old : Tables) (out : List ℕ) (reader : ReaderState) (h : S)
     → old.ended ≡ None → SoFar m who now reader.max reader.rest old out out old reader h h
 begins m who now old out reader h none = record {
   said = [];
@@ -111,14 +116,14 @@ spelled_more (b ∷ bs) [] body command are spells = absurd are
 spelled_more (b ∷ bs) (c ∷ cs) body command are spells = (are.0, spelled_more bs cs body command are.1 spells)
 
 -- a turn's command behind those that were answered
-pub record Turned {S : Type 0} (m : HubMeaning S) (who : Identity) (now max : ℕ) (bytes : List ℕ) (old : Tables) (out0 out1 : List Reply) (new : Tables) (reader : ReaderState) (h0 h1 : S) : Type 0 where
+pub record Turned {S : Type 0} (m : HubMeaning S) (who : Identity) (now max : ℕ) (bytes : List ℕ) (old : Tables) (out0 out1 : List ℕ) (new : Tables) (reader : ReaderState) (h0 h1 : S) : Type 0 where
   pub said : List Reply
-  pub wrote : out1 ≡ out0 ++ said
+  pub wrote : out1 ≡ out0 ++ all_frames who said
   pub answered : Answered m who now max bytes old said new reader.rest h0 h1
   pub same_max : reader.max ≡ max
   pub reads : reader.unspelt ≡ None
 
-pub turned : {S : Type 0} (m : HubMeaning S) (who : Identity) (now max : ℕ) (bytes : List ℕ) (old mid new : Tables) (out0 out1 out2 : List Reply) (reader after : ReaderState) (command : Command) (h0 h h1 : S)
+pub turned : {S : Type 0} (m : HubMeaning S) (who : Identity) (now max : ℕ) (bytes : List ℕ) (old mid new : Tables) (out0 out1 out2 : List ℕ) (reader after : ReaderState) (command : Command) (h0 h h1 : S)
     → SoFar m who now max bytes old out0 out1 mid reader h0 h → GivesCommand reader command after → AddsStep m who now mid command out1 out2 new h h1 → Turned m who now max bytes old out0 out2 new after h0 h1
 turned {S} m who now max bytes old mid new out0 out1 out2 reader after command h0 h h1 so given step =
     let a = so.answered in
@@ -130,7 +135,7 @@ turned {S} m who now max bytes old mid new out0 out1 out2 reader after command h
     let small : IsBody max b.body = subst (λ (n : ℕ). IsBody n b.body) so.same_max b.fits in
     record {
       said = so.said ++ here;
-      wrote = step.wrote ∙ ap (λ (o : List Reply). o ++ here) so.wrote ∙ append_assoc out0 so.said here;
+      wrote = frames_behind who so.said here (some_frames who step.reply) out0 out1 out2 so.wrote step.wrote (frames_some who step.reply);
       answered = record {
         bodies = a.bodies ++ b.body ∷ [];
         commands = a.commands ++ command ∷ [];
@@ -143,28 +148,28 @@ turned {S} m who now max bytes old mid new out0 out1 out2 reader after command h
       reads = ap (λ (r : ReaderState). r.unspelt) given.left;
     }
 
-pub goes_on : {S : Type 0} (m : HubMeaning S) (who : Identity) (now max : ℕ) (bytes : List ℕ) (old new : Tables) (out0 out1 : List Reply) (reader : ReaderState) (h0 h1 : S)
+pub goes_on : {S : Type 0} (m : HubMeaning S) (who : Identity) (now max : ℕ) (bytes : List ℕ) (old new : Tables) (out0 out1 : List ℕ) (reader : ReaderState) (h0 h1 : S)
     → Turned m who now max bytes old out0 out1 new reader h0 h1 → new.ended ≡ None → SoFar m who now max bytes old out0 out1 new reader h0 h1
 goes_on m who now max bytes old new out0 out1 reader h0 h1 t none = record { said = t.said; wrote = t.wrote; answered = t.answered; stands = none; same_max = t.same_max }
 
 -- ---- the last turn
 
-rests : {S : Type 0} (m : HubMeaning S) (who : Identity) (now max : ℕ) (bytes : List ℕ) (old new : Tables) (out0 out1 : List Reply) (reader : ReaderState) (h0 h1 : S)
+rests : {S : Type 0} (m : HubMeaning S) (who : Identity) (now max : ℕ) (bytes : List ℕ) (old new : Tables) (out0 out1 : List ℕ) (reader : ReaderState) (h0 h1 : S)
     → SoFar m who now max bytes old out0 out1 new reader h0 h1 → IsPartial reader.max reader.rest → Adds m who now max bytes old out0 out1 new reader.rest h0 h1
 rests m who now max bytes old new out0 out1 reader h0 h1 so partial =
     record { said = so.said; wrote = so.wrote; fed = Partly so.answered so.stands (subst (λ (n : ℕ). IsPartial n reader.rest) so.same_max partial) }
 
-pub rests_as : {S : Type 0} (m : HubMeaning S) (who : Identity) (now max : ℕ) (bytes : List ℕ) (old new : Tables) (out0 out1 : List Reply) (reader after : ReaderState) (h0 h1 : S)
+pub rests_as : {S : Type 0} (m : HubMeaning S) (who : Identity) (now max : ℕ) (bytes : List ℕ) (old new : Tables) (out0 out1 : List ℕ) (reader after : ReaderState) (h0 h1 : S)
     → SoFar m who now max bytes old out0 out1 new reader h0 h1 → IsPartial reader.max reader.rest → after ≡ reader → Adds m who now max bytes old out0 out1 new after.rest h0 h1
 rests_as {S} m who now max bytes old new out0 out1 reader after h0 h1 so partial same =
     subst (λ (r : ReaderState). Adds m who now max bytes old out0 out1 new r.rest h0 h1) (sym same) (rests m who now max bytes old new out0 out1 reader h0 h1 so partial)
 
-pub ends_now : {S : Type 0} (m : HubMeaning S) (who : Identity) (now max : ℕ) (bytes : List ℕ) (old new : Tables) (out0 out1 : List Reply) (reader : ReaderState) (h0 h1 : S)
+pub ends_now : {S : Type 0} (m : HubMeaning S) (who : Identity) (now max : ℕ) (bytes : List ℕ) (old new : Tables) (out0 out1 : List ℕ) (reader : ReaderState) (h0 h1 : S)
     → Turned m who now max bytes old out0 out1 new reader h0 h1 → new.ended ≢ None → Adds m who now max bytes old out0 out1 new reader.rest h0 h1
 ends_now m who now max bytes old new out0 out1 reader h0 h1 t over = record { said = t.said; wrote = t.wrote; fed = Ended t.answered over }
 
-closing : {S : Type 0} (m : HubMeaning S) (who : Identity) (now max : ℕ) (bytes : List ℕ) (old mid new : Tables) (response : ResponseCode) (out0 out1 out2 : List Reply) (reader : ReaderState) (rest : List ℕ) (h0 h1 : S)
-    → (so : SoFar m who now max bytes old out0 out1 mid reader h0 h1) → (c : AddsClose response mid out1 out2 new) → rest ≡ reader.rest → Closing m who now max bytes old response (so.said ++ c.reply ∷ []) new rest h0 h1
+closing : {S : Type 0} (m : HubMeaning S) (who : Identity) (now max : ℕ) (bytes : List ℕ) (old mid new : Tables) (response : ResponseCode) (out0 out1 out2 : List ℕ) (reader : ReaderState) (rest : List ℕ) (h0 h1 : S)
+    → (so : SoFar m who now max bytes old out0 out1 mid reader h0 h1) → (c : AddsClose who response mid out1 out2 new) → rest ≡ reader.rest → Closing m who now max bytes old response (so.said ++ c.reply ∷ []) new rest h0 h1
 closing {S} m who now max bytes old mid new response out0 out1 out2 reader rest h0 h1 so c same = record {
   before = so.said;
   mid = mid;
@@ -175,35 +180,26 @@ closing {S} m who now max bytes old mid new response out0 out1 out2 reader rest 
   said_is = refl;
 }
 
-closed_wrote : (before said : List Reply) (out1 out2 : List Reply) (reply : Reply) → out1 ≡ before ++ said → out2 ≡ out1 ++ reply ∷ [] → out2 ≡ before ++ (said ++ reply ∷ [])
-closed_wrote before said out1 out2 reply one two = two ∙ ap (λ (o : List Reply). o ++ reply ∷ []) one ∙ append_assoc before said (reply ∷ [])
-
-pub closes_unspelt : {S : Type 0} (m : HubMeaning S) (who : Identity) (now max : ℕ) (bytes : List ℕ) (old mid new : Tables) (out0 out1 out2 : List Reply) (reader after : ReaderState) (fault : DecodeFault) (h0 h1 : S)
-    → SoFar m who now max bytes old out0 out1 mid reader h0 h1 → BeginsUnspelt reader.max reader.rest fault → after ≡ record { max = reader.max; rest = reader.rest; unspelt = Some fault } → AddsClose code.UnknownFrame mid out1 out2 new
+pub closes_unspelt : {S : Type 0} (m : HubMeaning S) (who : Identity) (now max : ℕ) (bytes : List ℕ) (old mid new : Tables) (out0 out1 out2 : List ℕ) (reader after : ReaderState) (fault : DecodeFault) (h0 h1 : S)
+    → SoFar m who now max bytes old out0 out1 mid reader h0 h1 → BeginsUnspelt reader.max reader.rest fault → after ≡ record { max = reader.max; rest = reader.rest; unspelt = Some fault } → AddsClose who code.UnknownFrame mid out1 out2 new
     → Adds m who now max bytes old out0 out2 new after.rest h0 h1
 closes_unspelt {S} m who now max bytes old mid new out0 out1 out2 reader after fault h0 h1 so front left c =
     let same : after.rest ≡ reader.rest = ap (λ (r : ReaderState). r.rest) left in
     let here : BeginsUnspelt max after.rest fault = subst (λ (r : List ℕ). BeginsUnspelt max r fault) (sym same) (subst (λ (n : ℕ). BeginsUnspelt n reader.rest fault) so.same_max front) in
-    record { said = so.said ++ c.reply ∷ []; wrote = closed_wrote out0 so.said out1 out2 c.reply so.wrote c.wrote; fed = Unspelt fault (closing m who now max bytes old mid new code.UnknownFrame out0 out1 out2 reader after.rest h0 h1 so c same) here }
+    record { said = so.said ++ c.reply ∷ []; wrote = frames_behind who so.said (c.reply ∷ []) (frames_of who c.reply) out0 out1 out2 so.wrote c.wrote (frames_one who c.reply); fed = Unspelt fault (closing m who now max bytes old mid new code.UnknownFrame out0 out1 out2 reader after.rest h0 h1 so c same) here }
 
-pub closes_large : {S : Type 0} (m : HubMeaning S) (who : Identity) (now max : ℕ) (bytes : List ℕ) (old mid new : Tables) (out0 out1 out2 : List Reply) (reader after : ReaderState) (size : ℕ) (h0 h1 : S)
-    → SoFar m who now max bytes old out0 out1 mid reader h0 h1 → IsTooLarge reader.max reader.rest size → after ≡ reader → AddsClose code.FrameTooLarge mid out1 out2 new
+pub closes_large : {S : Type 0} (m : HubMeaning S) (who : Identity) (now max : ℕ) (bytes : List ℕ) (old mid new : Tables) (out0 out1 out2 : List ℕ) (reader after : ReaderState) (size : ℕ) (h0 h1 : S)
+    → SoFar m who now max bytes old out0 out1 mid reader h0 h1 → IsTooLarge reader.max reader.rest size → after ≡ reader → AddsClose who code.FrameTooLarge mid out1 out2 new
     → Adds m who now max bytes old out0 out2 new after.rest h0 h1
 closes_large {S} m who now max bytes old mid new out0 out1 out2 reader after size h0 h1 so large left c =
     let same : after.rest ≡ reader.rest = ap (λ (r : ReaderState). r.rest) left in
     let here : IsTooLarge max after.rest size = subst (λ (r : List ℕ). IsTooLarge max r size) (sym same) (subst (λ (n : ℕ). IsTooLarge n reader.rest size) so.same_max large) in
-    record { said = so.said ++ c.reply ∷ []; wrote = closed_wrote out0 so.said out1 out2 c.reply so.wrote c.wrote; fed = TooLarge size (closing m who now max bytes old mid new code.FrameTooLarge out0 out1 out2 reader after.rest h0 h1 so c same) here }
+    record { said = so.said ++ c.reply ∷ []; wrote = frames_behind who so.said (c.reply ∷ []) (frames_of who c.reply) out0 out1 out2 so.wrote c.wrote (frames_one who c.reply); fed = TooLarge size (closing m who now max bytes old mid new code.FrameTooLarge out0 out1 out2 reader after.rest h0 h1 so c same) here }
 
 -- ---- what is left of the reader
 
-pub closed_reads : (response : ResponseCode) (mid new : Tables) (out1 out2 : List Reply) (P : Type 0) → AddsClose response mid out1 out2 new → new.ended ≡ None → P
-closed_reads response mid new out1 out2 P c none = absurd (closed_ends response mid new c.reply c.closes none)
+pub closed_reads : (who : Identity) (response : ResponseCode) (mid new : Tables) (out1 out2 : List ℕ) (P : Type 0) → AddsClose who response mid out1 out2 new → new.ended ≡ None → P
+closed_reads who response mid new out1 out2 P c none = absurd (closed_ends response mid new c.reply c.closes none)
 
-pub max_stays : (old new : ReaderState) (max : ℕ) → new ≡ old → old.max ≡ max → new.max ≡ max
-max_stays old new max same is = ap (λ (r : ReaderState). r.max) same ∙ is
-
-pub unspelt_max : (old new : ReaderState) (fault : DecodeFault) (max : ℕ) → new ≡ record { max = old.max; rest = old.rest; unspelt = Some fault } → old.max ≡ max → new.max ≡ max
-unspelt_max old new fault max left is = ap (λ (r : ReaderState). r.max) left ∙ is
-
-pub unspelt_stays : (old new : ReaderState) → new ≡ old → old.unspelt ≡ None → new.unspelt ≡ None
-unspelt_stays old new same is = ap (λ (r : ReaderState). r.unspelt) same ∙ is
+pub waits : (max : ℕ) (old new : ReaderState) → old.max ≡ max → (old.unspelt ≡ None) × IsPartial old.max old.rest × (new ≡ old) → IsReading max new
+waits max old new same (spelt, partial, stays) = subst (IsReading max) (sym stays) (record { same_max = same; spelt = spelt; partial = subst (λ (n : ℕ). IsPartial n old.rest) same partial })

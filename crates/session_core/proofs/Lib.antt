@@ -1,9 +1,15 @@
 pub mod Declarations
 pub mod Joining
 pub mod Standing
+pub mod Wording
+pub mod Sessions
+pub mod Timing
 pub mod Parting
 pub mod Asking
 pub mod Answering
+pub mod Saying
 pub mod Leading
 pub mod PollLaws
+pub mod Silence
+pub mod Causes
 pub mod PollParts

@@ -1,5 +1,5 @@
 -- Subscriptions and groups: what a session asks of its hub at each of their commands, and what comes of each answer.
-use Rattle.std.specs.Prelude.{ℕ, Bool, position, Result, Ok, Err, Option, Some, None, if◌then◌else◌}
+use Rattle.std.specs.Prelude.{◌≡◌, ℕ, Bool, position, Result, Ok, Err, Option, Some, None, if◌then◌else◌}
 use Rattle.std.specs.declared.alloc.AllocError.{AllocError}
 use Rattle.command_fields.specs.declared.offset.OffsetSpec.{OffsetSpec}
 use Rattle.command_fields.specs.declared.offset.OffsetSpec.TheVariants.{Unset}
@@ -10,6 +10,7 @@ use Rattle.stream_terms.specs.Views.{name_of}
 use Rattle.hub_terms.specs.declared.terms.Found.{Found}
 use Rattle.hub_terms.specs.declared.terms.Found.TheVariants.{Missing, Closed, Running}
 use Rattle.hub_terms.specs.Calls.{Words, Finding, Starting, Joining, Leaving, Answering, IsActive}
+use Rattle.hub_terms.specs.Meaning.{HubMeaning}
 use Rattle.hub_terms.specs.Programs.{Program, done, asking, lost}
 use Rattle.session_tables.specs.Subscribing.{with_stream, is_single, group_name, slot, put_slot, more_credit, is_asked, is_last, counted}
 use Rattle.session_tables.specs.Opening.{Outcome, says, silent}
@@ -78,6 +79,19 @@ subscribe_on t last w (Running stream epoch) = subscribe_at t last w stream epoc
 -- each Subscribe counts, and none is taken behind the last number
 abbrev pub subscribe_row : Tables → Wish → Program Outcome
 subscribe_row t w = asking (Finding (name_of w.stream)) (subscribe_on (counted t) (is_last t) w)
+
+-- Where memory ran out no consumer has joined a group: nothing was asked for, or only a start, or the joining was refused.
+pub data JoinsNone {S : Type 0} (m : HubMeaning S) (t : Tables) (w : Wish) (h0 h1 : S) : Type 0 where
+  AskedNothing : h1 ≡ h0 → JoinsNone m t w h0 h1
+  AskedStart : (stream : ℕ) (answer : Result ℕ AllocError) → m.does (Starting stream w.spec) h0 answer h1 → JoinsNone m t w h0 h1
+  WasRefused : (stream : ℕ) (group : Words) (e : AllocError) → m.does (Joining stream group (consumer t t.subscribed)) h0 (Err e) h1 → JoinsNone m t w h0 h1
+
+-- once its stream was asked for
+pub record SubscribeLost {S : Type 0} (m : HubMeaning S) (t : Tables) (w : Wish) (h0 h1 : S) : Type 0 where
+  pub found : Found
+  pub hub : S
+  pub asked : m.does (Finding (name_of w.stream)) h0 found hub
+  pub joins_none : JoinsNone m (counted t) w hub h1
 
 -- ---- Credit
 

@@ -4,6 +4,7 @@ pub mod Consuming
 pub mod Offsets
 pub mod Streams
 pub mod Commands
+pub mod Saying
 pub mod Living
 pub mod Feeding
 pub mod Joins
@@ -13,4 +14,8 @@ pub mod Ending
 pub mod Turning
 pub mod Delivering
 pub mod Polling
+pub mod Silence
+pub mod Causes
 pub mod Delivered
+pub mod Sessions
+pub mod Preparing

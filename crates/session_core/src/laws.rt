@@ -1,6 +1,6 @@
 //! What holds of what a session answers.
 
-ghost use Rattle.session_core.specs.Joins.{PiecesJoin};
+ghost use Rattle.session_core.specs.Joins.{PiecesJoin, FeedsJoin};
 
 use hub_terms::Hub;
 
@@ -8,4 +8,10 @@ use hub_terms::Hub;
 /// what is said is the same. It does nothing.
 pub fn pieces_join<H: Hub>()
     ensures { PiecesJoin H.meaning }
+{}
+
+/// In whatever pieces the bytes come, each at its moment, feeds give the frames of one run: each command of the joined pieces
+/// is answered with the moment of the piece that completed it. It does nothing.
+pub fn feeds_join<H: Hub>()
+    ensures { FeedsJoin H.meaning }
 {}

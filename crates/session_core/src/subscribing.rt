@@ -1,11 +1,11 @@
 //! The command Subscribe, over any hub. After want of memory the session has ended, and the hub has only gone on.
 
-ghost use Rattle.std.specs.Prelude.{◌≡◌, Some, IfOk, OnOk};
+ghost use Rattle.std.specs.Prelude.{◌≡◌, Some, IfOk, OnOk, OnErr};
 ghost use Rattle.hub_terms.specs.Calls.{Joining, Starting};
 ghost use Rattle.hub_terms.specs.Programs.{Runs, asking};
 ghost use Rattle.session_tables.specs.Opening.{says};
 ghost use Rattle.session_tables.specs.Subscribing.{group_name, slot};
-ghost use Rattle.session_core.specs.Consuming.{consumer, subscribe_reply, one_with, with_subscription, started, joined, join_group, subscribe_free, subscribe_at, subscribe_row};
+ghost use Rattle.session_core.specs.Consuming.{consumer, subscribe_reply, one_with, with_subscription, started, joined, join_group, subscribe_free, subscribe_at, subscribe_row, JoinsNone, SubscribeLost};
 
 use crate::consuming::{Wish, consumer};
 use command_all::ResponseCode;
@@ -58,6 +58,7 @@ fn start<H: Hub>(
     epoch: u64,
 ) -> Result<Reply, AllocError>
     ensures ok { IfOk result (λ reply. Runs H.meaning (asking (Starting stream wish.now.spec) (started tables.old wish.now stream epoch)) hub.old (says tables.new reply) hub.new) }
+    ensures lost { OnErr result (JoinsNone H.meaning tables.old wish.now hub.old hub.new) }
     ensures later { H.meaning.seen.later hub.old hub.new }
 {
     match hub.start(stream, &wish.spec) {
@@ -69,7 +70,8 @@ fn start<H: Hub>(
     }
 }
 
-/// A subscription's consumer joins a group.
+/// A subscription's consumer joins a group. Behind its joining nothing takes memory, so that no consumer stays in a group
+/// without its subscription.
 fn join<H: Hub>(
     tables: &mut Tables,
     hub: &mut H,
@@ -79,12 +81,15 @@ fn join<H: Hub>(
     group: &Text,
 ) -> Result<Reply, AllocError>
     ensures ok { IfOk result (λ reply. Runs H.meaning (asking (Joining stream group.now (consumer tables.old tables.old.subscribed)) (joined tables.old wish.now stream epoch)) hub.old (says tables.new reply) hub.new) }
+    ensures lost { OnErr result (JoinsNone H.meaning tables.old wish.now hub.old hub.new) }
     ensures later { H.meaning.seen.later hub.old hub.new }
 {
+    tables.streams.know(stream, &wish.stream)?;
     let serial = tables.subscribed;
     match hub.join(stream, group, consumer(tables, serial)) {
         Ok(()) => {
-            keep(tables, wish, one_with(wish, stream, epoch, 0, Some(serial)))?;
+            let id = wish.id;
+            tables.put(id as usize, one_with(wish, stream, epoch, 0, Some(serial)));
             Ok(told(wish, ResponseCode::Ok))
         }
         Err(refused) => Err(refused),
@@ -100,6 +105,7 @@ fn join_named<H: Hub>(
     epoch: u64,
 ) -> Result<Reply, AllocError>
     ensures ok { IfOk result (λ reply. Runs H.meaning (join_group tables.old wish.now stream epoch (group_name wish.now.properties)) hub.old (says tables.new reply) hub.new) }
+    ensures lost { OnErr result (JoinsNone H.meaning tables.old wish.now hub.old hub.new) }
     ensures later { H.meaning.seen.later hub.old hub.new }
 {
     match group_name(&wish.properties) {
@@ -118,6 +124,7 @@ fn subscribe_free<H: Hub>(
     epoch: u64,
 ) -> Result<Reply, AllocError>
     ensures ok { IfOk result (λ reply. Runs H.meaning (subscribe_free tables.old last wish.now stream epoch) hub.old (says tables.new reply) hub.new) }
+    ensures lost { OnErr result (JoinsNone H.meaning tables.old wish.now hub.old hub.new) }
     ensures later { H.meaning.seen.later hub.old hub.new }
 {
     if last {
@@ -139,6 +146,7 @@ fn subscribe_at<H: Hub>(
     epoch: u64,
 ) -> Result<Reply, AllocError>
     ensures ok { IfOk result (λ reply. Runs H.meaning (subscribe_at tables.old last wish.now stream epoch (slot wish.now.id tables.old)) hub.old (says tables.new reply) hub.new) }
+    ensures lost { OnErr result (JoinsNone H.meaning tables.old wish.now hub.old hub.new) }
     ensures later { H.meaning.seen.later hub.old hub.new }
 {
     let id = wish.id;
@@ -148,9 +156,11 @@ fn subscribe_at<H: Hub>(
     }
 }
 
-/// Subscribe: a subscription comes, or the answer says why not. Each one counts.
+/// Subscribe: a subscription comes, or the answer says why not. Each one counts. After want of memory no consumer has joined a
+/// group.
 pub fn subscribe<H: Hub>(tables: &mut Tables, hub: &mut H, wish: &Wish) -> Result<Reply, AllocError>
     ensures ok { IfOk result (λ reply. Runs H.meaning (subscribe_row tables.old wish.now) hub.old (says tables.new reply) hub.new) }
+    ensures lost { OnErr result (SubscribeLost H.meaning tables.old wish.now hub.old hub.new) }
     ensures later { H.meaning.seen.later hub.old hub.new }
 {
     let last = tables.count();

@@ -1,6 +1,6 @@
 use Rattle.std.proofs.Common.{arith}
 use Rattle.command_fields.specs.declared.response.ResponseCode.TheVariants as code
-use Rattle.session_core.proofs.Answering.{given_command, given_unspelt, given_large, given_more, given_taken, command_shortens, on_ok, is_over, begins, turned, goes_on, rests_as, ends_now, closes_unspelt, closes_large, closed_reads, max_stays, unspelt_max, unspelt_stays}
+use Rattle.session_core.proofs.Answering.{given_command, given_unspelt, given_large, given_more, given_framed, command_shortens, on_ok, is_over, begins, turned, goes_on, rests_as, ends_now, closes_unspelt, closes_large, closed_reads, waits}
 use Rattle.session_core.proofs.feeding.answer_all.Goals as goal
 
 pub turns-init : goal.turns-init
@@ -13,7 +13,7 @@ pub answer-requires : goal.answer-requires
 answer-requires g c =
     let given = given_command c.turns.reader c.next.new.self c.in_ok-command.field-0 c.in-Command.command c.in-Command.is c.in_ok-command.ensures.given in
     let so = c.turns.invariant.so in
-    given_taken c.turns.reader c.next.new.self c.in-Command.command (omega (arith, so.same_max, c.requires.small)) given
+    given_framed c.turns.reader c.next.new.self c.in-Command.command (omega (arith, so.same_max, c.requires.small)) given
 
 pub turns-smaller : goal.turns-smaller
 turns-smaller g c =
@@ -35,16 +35,7 @@ returns-in-Some-clause-ok g c =
     ends_now g.H.Hub.meaning c.args.identity.now c.args.now c.args.reader.now.max c.args.reader.now.rest c.args.tables.now c.answer.new.tables c.args.out.now c.answer.new.out c.next.new.self c.args.hub.now c.answer.new.hub turn (is_over c.answer.new.tables c.in-Some.field-0 c.in-Some.is)
 
 pub returns-in-Some-clause-reads : goal.returns-in-Some-clause-reads
-returns-in-Some-clause-reads g c = λ none.
-    let given = given_command c.turns.reader c.next.new.self c.in_ok-command.field-0 c.in-Command.command c.in-Command.is c.in_ok-command.ensures.given in
-    let turn = turned g.H.Hub.meaning c.args.identity.now c.args.now c.args.reader.now.max c.args.reader.now.rest c.args.tables.now c.turns.tables c.answer.new.tables c.args.out.now c.turns.out c.answer.new.out c.turns.reader c.next.new.self c.in-Command.command c.args.hub.now c.turns.hub c.answer.new.hub c.turns.invariant.so given c.in_ok-answer-in-Command.ensures.ok in
-    turn.reads
-
-pub returns-in-Some-clause-max : goal.returns-in-Some-clause-max
-returns-in-Some-clause-max g c =
-    let given = given_command c.turns.reader c.next.new.self c.in_ok-command.field-0 c.in-Command.command c.in-Command.is c.in_ok-command.ensures.given in
-    let turn = turned g.H.Hub.meaning c.args.identity.now c.args.now c.args.reader.now.max c.args.reader.now.rest c.args.tables.now c.turns.tables c.answer.new.tables c.args.out.now c.turns.out c.answer.new.out c.turns.reader c.next.new.self c.in-Command.command c.args.hub.now c.turns.hub c.answer.new.hub c.turns.invariant.so given c.in_ok-answer-in-Command.ensures.ok in
-    turn.same_max
+returns-in-Some-clause-reads g c = λ none. absurd (is_over c.answer.new.tables c.in-Some.field-0 c.in-Some.is none)
 
 pub returns-in-Unspelt-clause-ok : goal.returns-in-Unspelt-clause-ok
 returns-in-Unspelt-clause-ok g c =
@@ -52,12 +43,7 @@ returns-in-Unspelt-clause-ok g c =
     on_ok c.close_with.result (closes_unspelt g.H.Hub.meaning c.args.identity.now c.args.now c.args.reader.now.max c.args.reader.now.rest c.args.tables.now c.turns.tables c.close_with.new.tables c.args.out.now c.turns.out c.close_with.new.out c.turns.reader c.next.new.self c.in-Unspelt.fault c.args.hub.now c.turns.hub c.turns.invariant.so given.0 given.1) c.close_with.ensures
 
 pub returns-in-Unspelt-clause-reads : goal.returns-in-Unspelt-clause-reads
-returns-in-Unspelt-clause-reads g c = on_ok c.close_with.result (closed_reads code.UnknownFrame c.turns.tables c.close_with.new.tables c.turns.out c.close_with.new.out _) c.close_with.ensures
-
-pub returns-in-Unspelt-clause-max : goal.returns-in-Unspelt-clause-max
-returns-in-Unspelt-clause-max g c =
-    let given = given_unspelt c.turns.reader c.next.new.self c.in_ok-command.field-0 c.in-Unspelt.fault c.in-Unspelt.is c.in_ok-command.ensures.given in
-    on_ok c.close_with.result (λ closed. unspelt_max c.turns.reader c.next.new.self c.in-Unspelt.fault c.args.reader.now.max given.1 c.turns.invariant.so.same_max) c.close_with.ensures
+returns-in-Unspelt-clause-reads g c = on_ok c.close_with.result (closed_reads c.args.identity.now code.UnknownFrame c.turns.tables c.close_with.new.tables c.turns.out c.close_with.new.out _) c.close_with.ensures
 
 pub returns-in-TooLarge-clause-ok : goal.returns-in-TooLarge-clause-ok
 returns-in-TooLarge-clause-ok g c =
@@ -66,12 +52,7 @@ returns-in-TooLarge-clause-ok g c =
 
 pub returns-in-TooLarge-clause-reads : goal.returns-in-TooLarge-clause-reads
 returns-in-TooLarge-clause-reads g c =
-    on_ok c.close_with-in-TooLarge.result (closed_reads code.FrameTooLarge c.turns.tables c.close_with-in-TooLarge.new.tables c.turns.out c.close_with-in-TooLarge.new.out _) c.close_with-in-TooLarge.ensures
-
-pub returns-in-TooLarge-clause-max : goal.returns-in-TooLarge-clause-max
-returns-in-TooLarge-clause-max g c =
-    let given = given_large c.turns.reader c.next.new.self c.in_ok-command.field-0 c.in-TooLarge.size c.in-TooLarge.is c.in_ok-command.ensures.given in
-    on_ok c.close_with-in-TooLarge.result (λ closed. max_stays c.turns.reader c.next.new.self c.args.reader.now.max given.2 c.turns.invariant.so.same_max) c.close_with-in-TooLarge.ensures
+    on_ok c.close_with-in-TooLarge.result (closed_reads c.args.identity.now code.FrameTooLarge c.turns.tables c.close_with-in-TooLarge.new.tables c.turns.out c.close_with-in-TooLarge.new.out _) c.close_with-in-TooLarge.ensures
 
 pub returns-in-More-clause-ok : goal.returns-in-More-clause-ok
 returns-in-More-clause-ok g c =
@@ -81,9 +62,4 @@ returns-in-More-clause-ok g c =
 pub returns-in-More-clause-reads : goal.returns-in-More-clause-reads
 returns-in-More-clause-reads g c = λ none.
     let given = given_more c.turns.reader c.next.new.self c.in_ok-command.field-0 c.in-More.is c.in_ok-command.ensures.given in
-    unspelt_stays c.turns.reader c.next.new.self given.2 given.0
-
-pub returns-in-More-clause-max : goal.returns-in-More-clause-max
-returns-in-More-clause-max g c =
-    let given = given_more c.turns.reader c.next.new.self c.in_ok-command.field-0 c.in-More.is c.in_ok-command.ensures.given in
-    max_stays c.turns.reader c.next.new.self c.args.reader.now.max given.2 c.turns.invariant.so.same_max
+    waits c.args.reader.now.max c.turns.reader c.next.new.self c.turns.invariant.so.same_max given
