@@ -7,3 +7,4 @@ pub mod Answering
 pub mod Leading
 pub mod PollLaws
 pub mod PollParts
+pub mod Sayable

@@ -14,3 +14,4 @@ pub mod Turning
 pub mod Delivering
 pub mod Polling
 pub mod Delivered
+pub mod Outgoing
