@@ -1,5 +1,5 @@
 -- Addresses and counts of members have one reading.
-use Rattle.std.proofs.Common.{◌≡◌, ◌<◌, ◌≤◌, ◌^◌, ◌+◌, ◌++◌, ◌∷◌, [], ℕ, Bool, true, false, List, length, take, drop, Option, Some, None, sym, ap, subst, ◌∙◌, arith, inl, inr, refl}
+use Rattle.std.proofs.Common.{◌≡◌, ◌<◌, ◌≤◌, ◌^◌, ℕ, Bool, true, false, List, length, take, Option, sym, ap, subst, ◌∙◌, arith}
 use Rattle.std.proofs.lemmas.Fmt.{decimal_injective}
 use Rattle.std.proofs.lemmas.List.{length-take-le}
 use Rattle.std.specs.Fmt.{decimal}
@@ -7,7 +7,7 @@ use Rattle.script_text.specs.Words.{Lacks, SplitsAt}
 use Rattle.script_text.proofs.Splits.{cut_same, lacks_it_not}
 use Rattle.clap.specs.Words.{Text}
 use Rattle.serve_words.specs.Asked.{IsAddress, IsGroupSize, IsCount, colon}
-use Rattle.serve_words.specs.Told.{Values, told, value_of}
+use Rattle.serve_words.specs.Told.{Values}
 
 abbrev fails : Bool → Type 0
 fails true = ⊥

@@ -1,5 +1,5 @@
 -- The values that words give the options.
-use Rattle.std.specs.Prelude.{◌≡◌, codes, List, Option}
+use Rattle.std.specs.Prelude.{codes, List, Option}
 use Rattle.std.specs.Option.{option_map}
 use Rattle.clap.specs.Words.{Text, first_of, matches_of}
 use Rattle.serve_words.specs.declared.options.Options.{Options}

@@ -1,4 +1,4 @@
-use Rattle.std.proofs.Common.{arith, take, drop, ◌+◌, ◌∙◌, sym}
+use Rattle.std.proofs.Common.{◌+◌, ◌∙◌, sym}
 use Rattle.std.proofs.lemmas.List.{take_rest}
 use Rattle.serve_words.proofs.Addresses.{no_colon, no_port, other_length, great_port, never, taken_length}
 use Rattle.serve_words.proofs.words.read_address.Goals as goal
