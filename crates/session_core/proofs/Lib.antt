@@ -13,3 +13,4 @@ pub mod PollLaws
 pub mod Silence
 pub mod Causes
 pub mod PollParts
+pub mod Sayable

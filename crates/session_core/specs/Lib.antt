@@ -19,3 +19,4 @@ pub mod Causes
 pub mod Delivered
 pub mod Sessions
 pub mod Preparing
+pub mod Outgoing
