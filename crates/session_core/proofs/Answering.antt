@@ -1,13 +1,13 @@
 -- The commands of a reader, answered turn by turn.
-use Rattle.std.proofs.Common.{◌≡◌, ◌≢◌, ◌<◌, ◌≤◌, ◌+◌, ◌*◌, ℕ, List, [], ◌∷◌, ◌++◌, length, All, Option, None, Some, Result, Ok, Err, refl, sym, ap, subst, ◌∙◌, append_assoc, arith}
+use Rattle.std.proofs.Common.{◌≡◌, ◌≢◌, ◌<◌, ◌≤◌, ◌*◌, ℕ, List, [], ◌∷◌, ◌++◌, length, None, Some, Result, Ok, Err, refl, sym, ap, subst, ◌∙◌, arith}
 use Rattle.std.specs.Prelude.{option_to_list, OnOk}
 use Rattle.std.specs.List.{AllByRecursion, flat_map}
 use Rattle.std.proofs.lemmas.List.{append-nil, length-append}
 use Rattle.std.proofs.lemmas.List.Elements.{All-nil}
 use Rattle.frame_wire.specs.Fields.{u8_bytes, u64_bytes}
-use Rattle.frame_wire.specs.Frames.{frame, IsBody, IsPartial, IsTooLarge, stream_of}
+use Rattle.frame_wire.specs.Frames.{frame, IsBody, IsPartial, IsTooLarge}
 use Rattle.frame_wire.specs.Joins.{list_bytes}
-use Rattle.frame_wire.proofs.FieldLaws.{u8_length, u64_length}
+use Rattle.frame_wire.proofs.FieldLaws.{u64_length}
 use Rattle.frame_wire.proofs.Streams.{frame_shortens, one_more, each_more}
 use Rattle.chunk_format.specs.Chunks.{entry_bytes}
 use Rattle.command_fields.specs.declared.fault.DecodeFault.{DecodeFault}
@@ -32,7 +32,7 @@ use Rattle.session_tables.specs.declared.reply.Reply.{Reply}
 use Rattle.session_tables.specs.declared.tables.SessionEnd.{SessionEnd}
 use Rattle.session_tables.specs.declared.tables.Tables.{Tables}
 use Rattle.session_core.specs.Commands.{HasFewItems, IsTaken}
-use Rattle.session_core.specs.Feeding.{CommandStep, CommandSteps, Answered, Closing, Fed, Partly, Ended, Unspelt, TooLarge, IsFramed, Adds, AddsStep, AddsClose, IsReading}
+use Rattle.session_core.specs.Feeding.{CommandSteps, Answered, Closing, Partly, Ended, Unspelt, TooLarge, IsFramed, Adds, AddsStep, AddsClose, IsReading}
 use Rattle.session_core.proofs.Parting.{steps_join}
 use Rattle.session_core.proofs.Standing.{closed_ends}
 use Rattle.session_core.proofs.Wording.{frames_one, frames_some, frames_behind}

@@ -5,7 +5,7 @@ use Rattle.std.proofs.lemmas.List.{drop_all, get_or_default}
 use Rattle.command_admin.specs.declared.item.StreamMetadata.{StreamMetadata}
 use Rattle.stream_terms.specs.Views.{name_of}
 use Rattle.hub_terms.specs.declared.terms.Found.{Found}
-use Rattle.hub_terms.specs.Calls.{Words, Finding, Leaving}
+use Rattle.hub_terms.specs.Calls.{Words, Finding}
 use Rattle.hub_terms.specs.Meaning.{HubMeaning}
 use Rattle.hub_terms.specs.Programs.{Runs}
 use Rattle.session_tables.specs.Opening.{Outcome, says, silent}

@@ -1,5 +1,5 @@
 -- What an accepted declaration's words are.
-use Rattle.std.proofs.Common.{◌≡◌, ◌≤◌, ℕ, List, [], length, Option, Some, None, false, arith}
+use Rattle.std.proofs.Common.{◌≡◌, ℕ, List, Option, Some, None, false, arith}
 use Rattle.stream_terms.specs.Views.{name_of}
 use Rattle.hub_terms.specs.Meaning.{IsShortName}
 use Rattle.session_tables.specs.Publishing.{is_refused}

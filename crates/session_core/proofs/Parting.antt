@@ -1,5 +1,5 @@
 -- What pieces of a peer's bytes make together.
-use Rattle.std.proofs.Common.{◌≡◌, ℕ, List, [], ◌∷◌, ◌++◌, None, refl, sym, ap, subst, ◌∙◌, append_assoc}
+use Rattle.std.proofs.Common.{◌≡◌, ℕ, List, [], ◌∷◌, ◌++◌, None, sym, ap, subst, ◌∙◌, append_assoc}
 use Rattle.command_fields.specs.declared.response.ResponseCode.{ResponseCode}
 use Rattle.command_fields.specs.declared.response.ResponseCode.TheVariants as code
 use Rattle.command_all.specs.declared.command.Command.{Command}

@@ -1,7 +1,6 @@
 -- What comes of a poll's conversation.
-use Rattle.std.proofs.Common.{◌≡◌, ◌≢◌, ℕ, zero, suc, ◌+◌, ◌-◌, ◌<◌, ◌≤◌, ◌==◌, Bool, true, false, cond, List, [], ◌∷◌, ◌++◌, length, get_or, set, map, flat_map, Option, Some, None, Result, Ok, Err, refl, sym, ap, subst, ◌∙◌, append_assoc, if◌then◌else◌, arith}
-use Rattle.std.specs.List.{AllByRecursion, find, Contains}
-use Rattle.std.specs.Option.{option_map}
+use Rattle.std.proofs.Common.{◌≡◌, ◌≢◌, ℕ, zero, suc, ◌+◌, ◌-◌, ◌<◌, ◌≤◌, ◌==◌, Bool, true, false, cond, List, [], ◌∷◌, ◌++◌, length, get_or, Option, Some, None, Result, Ok, Err, refl, sym, ap, subst, ◌∙◌, append_assoc, if◌then◌else◌, arith}
+use Rattle.std.specs.List.{AllByRecursion}
 use Rattle.std.specs.declared.alloc.AllocError.{AllocError}
 use Rattle.std.proofs.lemmas.List.{append-nil, get_or-set_same, get_or-set_other}
 use Rattle.std.proofs.lemmas.List.Concat.{flat_map-append}
@@ -9,7 +8,7 @@ use Rattle.chunk_format.specs.declared.chunk.Chunk.{Chunk}
 use Rattle.chunk_format.specs.Chunks.{end_of_chunk}
 use Rattle.chunk_format.specs.Logs.{GoesOn, IsLog, next_above, users_above}
 use Rattle.chunk_format.proofs.UserLaws.{next_stays, users_step}
-use Rattle.hub_terms.specs.Calls.{Call, Answer, NextChunk, LastChunk, IsActive}
+use Rattle.hub_terms.specs.Calls.{NextChunk, IsActive}
 use Rattle.hub_terms.specs.Meaning.{HubSeen, HubMeaning, HubLaws}
 use Rattle.hub_terms.specs.Programs.{Program, done, asking, lost, Runs}
 use Rattle.session_tables.specs.Subscribing.{slot, put_slot}
@@ -20,7 +19,7 @@ use Rattle.session_core.specs.declared.unasked.Unasked.TheVariants as say
 use Rattle.session_core.specs.Consuming.{consumer}
 use Rattle.session_core.specs.Speaking.{Spoken, spoken, goes_on}
 use Rattle.session_core.specs.Delivering.{sent_to, committed_row, rests, chunk_by, send, active_row, single_row, slot_by, slot_row, slots_row}
-use Rattle.session_core.specs.Delivered.{DeliverRun, chunk_to, chunks_to, Goes, SlotGoes, Stops, Spent, NoneDue, Waits, SlotStops, GapFree}
+use Rattle.session_core.specs.Delivered.{DeliverRun, chunk_to, chunks_to, Goes, Stops, Spent, NoneDue, Waits, SlotStops, GapFree}
 
 -- ---- conversations
 

@@ -1,22 +1,21 @@
 -- What comes of the parts of a poll, and of the whole.
-use Rattle.std.proofs.Common.{◌≡◌, ◌≢◌, ℕ, zero, suc, ◌+◌, ◌-◌, ◌<◌, ◌≤◌, ◌==◌, ◌&&◌, Bool, true, false, cond, List, [], ◌∷◌, ◌++◌, length, get_or, set, map, flat_map, position, Option, Some, None, Result, Ok, Err, refl, sym, ap, subst, ◌∙◌, append_assoc, if◌then◌else◌, arith}
-use Rattle.std.specs.List.{AllByRecursion, find, Contains, list_any}
+use Rattle.std.proofs.Common.{◌≡◌, ℕ, zero, suc, ◌==◌, ◌&&◌, Bool, true, false, cond, List, [], ◌∷◌, ◌++◌, get_or, set, map, position, Option, Some, None, Result, Ok, Err, refl, sym, ap, subst, ◌∙◌, append_assoc, if◌then◌else◌, arith}
+use Rattle.std.specs.List.{AllByRecursion, find, Contains}
 use Rattle.std.specs.Option.{option_map}
 use Rattle.std.specs.declared.alloc.AllocError.{AllocError}
-use Rattle.std.proofs.lemmas.List.{append-nil, get_or-set_same, get_or-set_other}
+use Rattle.std.proofs.lemmas.List.{append-nil}
 use Rattle.std.proofs.lemmas.List.Concat.{flat_map-append}
 use Rattle.chunk_format.specs.declared.chunk.Chunk.{Chunk}
 use Rattle.chunk_format.specs.Logs.{users_above}
 use Rattle.chunk_format.proofs.UserLaws.{found_passes}
 use Rattle.stream_terms.specs.declared.terms.Confirm.{Confirm}
 use Rattle.active_groups.specs.declared.consumer.Change.{Change}
-use Rattle.hub_terms.specs.Calls.{Confirming, Finding, Changing}
+use Rattle.hub_terms.specs.Calls.{Confirming, Finding}
 use Rattle.stream_terms.specs.Views.{name_of}
 use Rattle.hub_terms.specs.Meaning.{HubSeen, HubMeaning, HubLaws, ConfirmTold}
-use Rattle.hub_terms.specs.Programs.{Program, done, asking, lost, Runs}
+use Rattle.hub_terms.specs.Programs.{Program, done, asking, Runs}
 use Rattle.session_tables.specs.Opening.{next_asked}
-use Rattle.session_tables.specs.Publishing.{without_ended}
-use Rattle.session_tables.specs.Subscribing.{slot, put_slot}
+use Rattle.session_tables.specs.Subscribing.{slot}
 use Rattle.session_tables.specs.declared.publishers.Publisher.{Publisher}
 use Rattle.session_tables.specs.declared.streams.StreamName.{StreamName}
 use Rattle.session_tables.specs.declared.tables.Subscription.{Subscription}
@@ -26,11 +25,11 @@ use Rattle.session_core.specs.declared.unasked.Unasked.TheVariants as say
 use Rattle.session_core.specs.Speaking.{Spoken, spoken, goes_on}
 use Rattle.session_core.specs.Confirming.{is_of, id_of, told_by, told_of, all_told, confirmed, confirms_row}
 use Rattle.session_core.specs.Ending.{running_on, slot_over, has_over, kept_slot, without_over, all_leaving, ended_row, found_row, stream_row, streams_row}
-use Rattle.session_core.specs.Turning.{is_consumer, asked_slot, asks, turned_at, turned, turn_by, turns_row}
+use Rattle.session_core.specs.Turning.{is_consumer, asked_slot, turned_at, turned, turn_by, turns_row}
 use Rattle.session_core.specs.Delivering.{slots_row}
-use Rattle.session_core.specs.Polling.{is_open, open_row, poll_row}
-use Rattle.session_core.specs.Delivered.{DeliverRun, chunk_to, chunks_to, Goes, SlotGoes, SlotStops, Confirmed, HasCause, PollAdds, GapFree, PolledSo, all_chunks, DeliveriesJoin}
-use Rattle.session_core.proofs.PollLaws.{Parts, runs_part, runs_later, IsDelivery, all_join, SlotKeeps, Each, SlotsDo, slots_do, slot_from, is_same, goes_later, run_is_gap_free}
+use Rattle.session_core.specs.Polling.{open_row}
+use Rattle.session_core.specs.Delivered.{DeliverRun, chunk_to, chunks_to, Goes, SlotGoes, SlotStops, HasCause, PollAdds, GapFree, PolledSo, all_chunks, DeliveriesJoin}
+use Rattle.session_core.proofs.PollLaws.{runs_part, runs_later, IsDelivery, all_join, SlotKeeps, SlotsDo, slots_do, slot_from, is_same, goes_later, run_is_gap_free}
 
 -- ---- confirms
 

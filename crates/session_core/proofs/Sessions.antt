@@ -6,13 +6,11 @@ use Rattle.command_reader.specs.States.{ReaderState, IsEnded, Takes, taken, new_
 use Rattle.hub_terms.specs.Calls.{Words}
 use Rattle.hub_terms.specs.Meaning.{HubMeaning}
 use Rattle.hub_terms.specs.Programs.{Runs, done}
-use Rattle.session_tables.specs.Opening.{Outcome, leaves}
 use Rattle.session_tables.specs.Spelling.{all_frames}
 use Rattle.session_tables.specs.declared.reply.Reply.{Reply}
 use Rattle.session_tables.specs.declared.tables.SessionEnd.{SessionEnd}
 use Rattle.session_tables.specs.declared.tables.Tables.{Tables}
 use Rattle.session_core.specs.Feeding.{Fed, Adds, IsReading}
-use Rattle.session_core.specs.Living.{at_tick, tick_of}
 use Rattle.session_core.specs.Delivered.{PollAdds}
 use Rattle.session_core.specs.Polling.{is_open, open_row, poll_row}
 use Rattle.session_core.specs.Preparing.{prepare_row, Refuses}

@@ -1,11 +1,11 @@
 -- Whether a session stands, and its reader goes on.
-use Rattle.std.proofs.Common.{◌≡◌, ◌⊎◌, ◌≤◌, ℕ, List, [], ◌++◌, length, Option, None, Some, refl, sym, ap, ◌∙◌, arith, inl, inr}
+use Rattle.std.proofs.Common.{◌≡◌, ◌⊎◌, ℕ, Option, None, Some, refl, sym, ap, ◌∙◌, arith, inl, inr}
 use Rattle.std.specs.Prelude.{IsSome}
 use Rattle.command_fields.specs.declared.response.ResponseCode.{ResponseCode}
-use Rattle.frame_wire.specs.Frames.{size_of, IsPartial, IsTooLarge}
+use Rattle.frame_wire.specs.Frames.{size_of, IsPartial}
 use Rattle.frame_wire.proofs.Streams.{not_both}
 use Rattle.command_fields.specs.declared.fault.DecodeFault.{DecodeFault}
-use Rattle.command_reader.specs.States.{ReaderState, IsEnded, new_reader, taken, Takes}
+use Rattle.command_reader.specs.States.{ReaderState, IsEnded, new_reader}
 use Rattle.session_tables.specs.Opening.{Outcome, leaves, says, closed}
 use Rattle.session_tables.specs.declared.reply.Reply.{Reply}
 use Rattle.session_tables.specs.declared.tables.SessionEnd.{SessionEnd}

@@ -1,6 +1,6 @@
 -- Feeds of a session, each at its moment, are one run.
-use Rattle.std.proofs.Common.{◌≡◌, ◌≢◌, ◌⊎◌, ◌≤◌, ◌<◌, ◌+◌, ◌-◌, ◌^◌, ℕ, Bool, true, false, cond, List, [], ◌∷◌, ◌++◌, length, take, drop, All, Option, None, Some, refl, sym, ap, subst, ◌∙◌, append_assoc, arith, inl, inr}
-use Rattle.std.specs.Prelude.{nat_lt, nat_le}
+use Rattle.std.proofs.Common.{◌≡◌, ◌≢◌, ◌⊎◌, ◌≤◌, ◌<◌, ◌+◌, ◌-◌, ℕ, Bool, true, false, cond, List, [], ◌∷◌, ◌++◌, length, take, drop, All, Option, None, Some, refl, sym, ap, subst, ◌∙◌, append_assoc, arith, inl, inr}
+use Rattle.std.specs.Prelude.{nat_lt}
 use Rattle.std.specs.List.{flat_map}
 use Rattle.std.proofs.lemmas.Bool.{cases_lt}
 use Rattle.std.proofs.lemmas.Grind.{flat_map-append}
@@ -8,19 +8,17 @@ use Rattle.std.proofs.lemmas.List.{append-nil, length-append, take-append-le, ta
 use Rattle.std.proofs.lemmas.List.Elements.{All-append, All-head, All-nil}
 use Rattle.std.proofs.Math.Seq.{take-append_seam}
 use Rattle.frame_wire.specs.Fields.{u32_bytes}
-use Rattle.frame_wire.specs.Frames.{frame, stream_of, IsBody, IsPartial, IsTooLarge, BeginsFrame}
+use Rattle.frame_wire.specs.Frames.{frame, stream_of, IsBody, IsPartial}
 use Rattle.frame_wire.proofs.FieldLaws.{u32_length}
 use Rattle.frame_wire.proofs.Streams.{large_after, partial_begins}
-use Rattle.command_fields.specs.declared.fault.DecodeFault.{DecodeFault}
 use Rattle.command_fields.specs.declared.response.ResponseCode.{ResponseCode}
 use Rattle.command_fields.specs.declared.response.ResponseCode.TheVariants as code
 use Rattle.command_all.specs.declared.command.Command.{Command}
 use Rattle.command_all.specs.declared.identity.Identity.{Identity}
-use Rattle.command_all.specs.Commands.{Spells}
-use Rattle.command_all.specs.Reading.{AreSpelled, BeginsUnspelt}
+use Rattle.command_all.specs.Reading.{AreSpelled}
 use Rattle.command_all.proofs.Readings.{unspelt_after}
 use Rattle.hub_terms.specs.Meaning.{HubMeaning}
-use Rattle.session_tables.specs.Beating.{seen_at, received_at, sent_at}
+use Rattle.session_tables.specs.Beating.{seen_at}
 use Rattle.session_tables.specs.Spelling.{all_frames}
 use Rattle.session_tables.specs.declared.moments.Moments.{Moments}
 use Rattle.session_tables.specs.declared.reply.Reply.{Reply}

@@ -1,5 +1,5 @@
 -- What a session answers to each command at each stage, whatever hub it has.
-use Rattle.std.specs.Prelude.{◌≤◌, ℕ, List, length}
+use Rattle.std.specs.Prelude.{◌≤◌, ℕ, length}
 use Rattle.std.specs.List.{AllByRecursion}
 use Rattle.command_data.specs.declared.command.DataCommand.{DataCommand}
 use Rattle.command_data.specs.declared.command.DataCommand.TheVariants as of_data

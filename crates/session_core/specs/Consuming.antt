@@ -11,7 +11,7 @@ use Rattle.hub_terms.specs.declared.terms.Found.{Found}
 use Rattle.hub_terms.specs.declared.terms.Found.TheVariants.{Missing, Closed, Running}
 use Rattle.hub_terms.specs.Calls.{Words, Finding, Starting, Joining, Leaving, Answering, IsActive}
 use Rattle.hub_terms.specs.Meaning.{HubMeaning}
-use Rattle.hub_terms.specs.Programs.{Program, done, asking, lost}
+use Rattle.hub_terms.specs.Programs.{Program, asking, lost}
 use Rattle.session_tables.specs.Subscribing.{with_stream, is_single, group_name, slot, put_slot, more_credit, is_asked, is_last, counted}
 use Rattle.session_tables.specs.Opening.{Outcome, says, silent}
 use Rattle.session_tables.specs.declared.reply.Reply.{Reply}

@@ -1,11 +1,10 @@
 -- What comes of a poll: which confirms are told, and which chunks are delivered.
-use Rattle.std.specs.Prelude.{◌≡◌, ℕ, ◌-◌, ◌==◌, ◌<◌, ◌⊎◌, Bool, true, false, List, [], ◌∷◌, ◌++◌, flat_map, Option, None, Some, if◌then◌else◌}
+use Rattle.std.specs.Prelude.{◌≡◌, ℕ, ◌-◌, ◌==◌, ◌<◌, Bool, false, List, [], ◌∷◌, ◌++◌, flat_map, Option, None, Some, if◌then◌else◌}
 use Rattle.std.specs.List.{AllByRecursion, Contains}
 use Rattle.chunk_format.specs.declared.chunk.Chunk.{Chunk}
 use Rattle.chunk_format.specs.Chunks.{end_of_chunk}
 use Rattle.chunk_format.specs.Logs.{IsLog, next_above, users_above}
 use Rattle.stream_terms.specs.declared.terms.Confirm.{Confirm}
-use Rattle.active_groups.specs.declared.consumer.ConsumerId.{ConsumerId}
 use Rattle.hub_terms.specs.Calls.{IsActive}
 use Rattle.hub_terms.specs.Meaning.{HubSeen, HubMeaning, ConfirmTold}
 use Rattle.hub_terms.specs.Programs.{Runs}

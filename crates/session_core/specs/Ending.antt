@@ -1,5 +1,5 @@
 -- Epochs that ended: the publishers and subscriptions of each are gone.
-use Rattle.std.specs.Prelude.{ℕ, Bool, true, false, ◌==◌, ◌||◌, List, [], ◌∷◌, ◌++◌, map, Option, None, Some, slice_index_or, if◌then◌else◌}
+use Rattle.std.specs.Prelude.{ℕ, Bool, false, ◌==◌, ◌||◌, List, [], ◌∷◌, ◌++◌, map, Option, None, Some, slice_index_or, if◌then◌else◌}
 use Rattle.std.specs.List.{list_any}
 use Rattle.stream_terms.specs.Views.{name_of}
 use Rattle.hub_terms.specs.declared.terms.Found.{Found}

@@ -1,5 +1,5 @@
 -- A session over the commands that its peer's bytes spell.
-use Rattle.std.specs.Prelude.{◌≡◌, ◌≢◌, ◌≤◌, ℕ, List, [], ◌∷◌, ◌++◌, length, All, Option, None, Some, option_to_list}
+use Rattle.std.specs.Prelude.{◌≡◌, ◌≢◌, ◌≤◌, ℕ, List, [], ◌∷◌, ◌++◌, length, All, Option, None, option_to_list}
 use Rattle.frame_wire.specs.Frames.{stream_of, IsBody, IsPartial, IsTooLarge}
 use Rattle.command_fields.specs.declared.fault.DecodeFault.{DecodeFault}
 use Rattle.command_fields.specs.declared.response.ResponseCode.{ResponseCode}

@@ -1,6 +1,5 @@
 -- What pieces of a peer's bytes make together.
-use Rattle.std.specs.Prelude.{◌≡◌, ◌≢◌, ℕ, ◌+◌, ◌-◌, nat_le, List, [], ◌∷◌, ◌++◌, length, All, Option, None, if◌then◌else◌}
-use Rattle.std.specs.List.{flat_map}
+use Rattle.std.specs.Prelude.{◌≡◌, ◌≢◌, ℕ, ◌+◌, ◌-◌, nat_le, List, [], ◌∷◌, ◌++◌, length, All, None, if◌then◌else◌}
 use Rattle.frame_wire.specs.Frames.{frame, stream_of, IsBody, IsPartial, IsTooLarge}
 use Rattle.command_fields.specs.declared.fault.DecodeFault.{DecodeFault}
 use Rattle.command_fields.specs.declared.response.ResponseCode.{ResponseCode}

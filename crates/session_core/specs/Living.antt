@@ -2,7 +2,7 @@
 use Rattle.std.specs.Prelude.{◌≡◌, ℕ, List, [], ◌∷◌, Option, Some, None}
 use Rattle.hub_terms.specs.Calls.{Leaving}
 use Rattle.hub_terms.specs.Meaning.{HubMeaning}
-use Rattle.hub_terms.specs.Programs.{Program, done, asking}
+use Rattle.hub_terms.specs.Programs.{Program, asking}
 use Rattle.session_tables.specs.Beating.{seen_at, ticked, beats}
 use Rattle.session_tables.specs.Opening.{Outcome, says, silent}
 use Rattle.session_tables.specs.declared.moments.Pulse.{Pulse}

@@ -7,8 +7,8 @@ use Rattle.stream_terms.specs.declared.terms.OfferFault.{OfferFault}
 use Rattle.stream_terms.specs.declared.terms.OfferFault.TheVariants as of
 use Rattle.stream_terms.specs.Views.{name_of}
 use Rattle.hub_terms.specs.Calls.{Words, Finding, StoringOffset, StoredOf, LastChunk}
-use Rattle.hub_terms.specs.Programs.{Program, done, asking, lost}
-use Rattle.session_tables.specs.Opening.{Outcome, says, silent}
+use Rattle.hub_terms.specs.Programs.{Program, asking, lost}
+use Rattle.session_tables.specs.Opening.{Outcome}
 use Rattle.session_tables.specs.declared.reply.Reply.TheVariants as say
 use Rattle.session_tables.specs.declared.tables.Tables.{Tables}
 use Rattle.session_core.specs.Ends.{replies, is_quiet, stream_of}

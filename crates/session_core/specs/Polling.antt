@@ -1,5 +1,5 @@
 -- What a session says unasked.
-use Rattle.std.specs.Prelude.{ℕ, List, Option, None, Some, Bool, true, false, if◌then◌else◌}
+use Rattle.std.specs.Prelude.{List, Option, None, Some, Bool, true, false, if◌then◌else◌}
 use Rattle.hub_terms.specs.Programs.{Program, done}
 use Rattle.session_tables.specs.declared.tables.SessionEnd.{SessionEnd}
 use Rattle.session_tables.specs.declared.tables.Stage.{Stage}

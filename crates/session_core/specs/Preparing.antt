@@ -1,6 +1,6 @@
 -- A session that is prepared on a stream: its connection is open from the start, without heartbeats, and publisher 0 is declared
 -- without a reference.
-use Rattle.std.specs.Prelude.{◌≡◌, ℕ, [], Result, Ok, Err, None}
+use Rattle.std.specs.Prelude.{◌≡◌, ℕ, Result, Ok, Err, None}
 use Rattle.command_all.specs.declared.identity.Identity.{Identity}
 use Rattle.stream_terms.specs.declared.terms.Pass.{Pass}
 use Rattle.stream_terms.specs.declared.terms.DeclareFault.{DeclareFault}

@@ -16,10 +16,10 @@ use Rattle.stream_terms.specs.Views.{name_of}
 use Rattle.hub_terms.specs.declared.terms.Found.{Found}
 use Rattle.hub_terms.specs.declared.terms.Found.TheVariants.{Missing, Closed, Running}
 use Rattle.hub_terms.specs.Calls.{Words, Finding, Declaring, Offering, GreatestOf}
-use Rattle.hub_terms.specs.Programs.{Program, done, asking, lost}
+use Rattle.hub_terms.specs.Programs.{Program, asking, lost}
 use Rattle.session_tables.specs.Publishing.{has_id, leave, without_publisher, is_refused}
 use Rattle.session_tables.specs.Subscribing.{with_stream}
-use Rattle.session_tables.specs.Opening.{Outcome, says, silent}
+use Rattle.session_tables.specs.Opening.{Outcome, says}
 use Rattle.session_tables.specs.declared.reply.Reply.TheVariants as say
 use Rattle.session_tables.specs.declared.reply.Request.TheVariants as request
 use Rattle.session_tables.specs.declared.tables.Tables.{Tables}

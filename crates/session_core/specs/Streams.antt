@@ -14,7 +14,7 @@ use Rattle.hub_terms.specs.declared.terms.Found.TheVariants.{Missing, Closed, Ru
 use Rattle.hub_terms.specs.declared.terms.HubDid.{HubDid}
 use Rattle.hub_terms.specs.declared.terms.HubDid.TheVariants.{Code, Failed, Memory}
 use Rattle.hub_terms.specs.Calls.{Words, Finding, Creating, Deleting, CreatingSuper, DeletingSuper, PartsOf, Routing}
-use Rattle.hub_terms.specs.Programs.{Program, done, asking, lost}
+use Rattle.hub_terms.specs.Programs.{Program, asking, lost}
 use Rattle.session_tables.specs.Subscribing.{takes_second}
 use Rattle.session_tables.specs.Opening.{Outcome, says}
 use Rattle.session_tables.specs.declared.reply.Reply.TheVariants as say

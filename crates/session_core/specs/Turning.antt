@@ -1,5 +1,5 @@
 -- The turns of consumers: each change of its group is asked of a consumer.
-use Rattle.std.specs.Prelude.{ℕ, zero, suc, Bool, false, ◌==◌, List, [], ◌∷◌, ◌++◌, position, Option, None, Some}
+use Rattle.std.specs.Prelude.{ℕ, zero, suc, Bool, false, List, [], ◌∷◌, ◌++◌, position, Option, None, Some}
 use Rattle.active_groups.specs.declared.consumer.Change.{Change}
 use Rattle.hub_terms.specs.Calls.{Changing}
 use Rattle.hub_terms.specs.Programs.{Program, done, asking}

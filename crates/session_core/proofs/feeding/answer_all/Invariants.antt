@@ -1,4 +1,4 @@
-use Rattle.std.proofs.Common.{ℕ, length}
+use Rattle.std.proofs.Common.{length}
 use Rattle.session_core.proofs.Answering.{SoFar}
 use Rattle.session_core.proofs.feeding.answer_all.Given as goal
 
