@@ -16,3 +16,4 @@ pub mod Handing
 pub mod Bringing
 pub mod Led
 pub mod Lasting
+pub mod Indexing

@@ -9,6 +9,7 @@ ghost use Rattle.stream_cluster.specs.Happens.{EventGives, receipt_due, numbered
 ghost use Rattle.stream_cluster.specs.Served.{members_of, Moves};
 
 use crate::event::Event;
+use crate::index::Index;
 use crate::replicas::Replicas;
 use cluster_core::Outcome;
 use frame_wire::Limits;
@@ -27,16 +28,19 @@ pub struct Cluster {
     pub(crate) replicas: Replicas,
     /// They keep the number of the stream.
     pub(crate) passes: Passes,
+    /// Of the committed list.
+    pub(crate) index: Index,
 }
 
 impl Model for Cluster {
+    ghost use Rattle.member_core.specs.Kept.{IsKnown};
     ghost use Rattle.stream_cluster.specs.Served.{ServedState, served, IsServed};
 
     ghost Value = { ServedState };
 
     ghost view = { λ c. served c.limits c.replicas c.passes };
 
-    ghost invariant = { λ c. IsServed (served c.limits c.replicas c.passes) };
+    ghost invariant = { λ c. IsServed (served c.limits c.replicas c.passes) × IsKnown c.replicas.cluster.committed c.index.count c.index.tracking };
 }
 
 impl Replicas {

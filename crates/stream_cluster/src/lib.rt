@@ -11,6 +11,7 @@ mod event;
 mod fault;
 mod found;
 mod hear;
+mod index;
 mod jobs;
 mod laws;
 mod nudge;

@@ -7,6 +7,7 @@ ghost use Rattle.stream_cluster.specs.Opens.{AreNumbered, IsWhole, AllWhole, May
 
 use crate::cluster::Cluster;
 use crate::fault::OpenFault;
+use crate::index::Index;
 use crate::place::Place;
 use crate::replicas::Replicas;
 use crate::whole::{refuse_ahead, refuse_broken, refuse_diverged};
@@ -113,6 +114,7 @@ impl Cluster {
             limits,
             replicas,
             passes: Passes::new(alloc, stream),
+            index: Index::nothing(alloc),
         })
     }
 }

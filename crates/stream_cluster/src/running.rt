@@ -8,6 +8,7 @@ ghost use Rattle.stream_cluster.specs.Takes.{leader_of};
 
 use crate::place::Place;
 use crate::replicas::Replicas;
+use chunk_format::Stored;
 use cluster_core::list_end;
 
 impl Place {
@@ -37,6 +38,13 @@ fn place_leads(seats: &[Place], place: usize, epoch: u64) -> bool
 }
 
 impl Replicas {
+    /// The committed list.
+    pub(crate) fn list(&self) -> &[Stored]
+        ensures { result.now ≡ self.now.cluster.committed }
+    {
+        self.committed.as_slice()
+    }
+
     /// Where the committed list ends.
     pub(crate) fn end(&self) -> u64
         ensures { result ≡ end_of self.now.cluster.committed }

@@ -1,6 +1,7 @@
 //! What a stream does for those that use it: declarations, offers, stored offsets and confirms.
 
-ghost use Rattle.std.specs.Prelude.{◌≡◌, ◌≤◌, length, unwrap_or, IfErr};
+ghost use Rattle.std.specs.Prelude.{◌≡◌, ◌≤◌, length, unwrap_or, IfOk};
+ghost use Rattle.chunk_format.specs.ByName.{Greatest, LastStored};
 ghost use Rattle.stream_terms.specs.declared.terms.OfferFault.TheVariants as refused;
 ghost use Rattle.stream_terms.specs.Views.{name_of};
 ghost use Rattle.stream_terms.specs.Steps.{DeclareStep, OfferStep, OffsetStep};
@@ -90,5 +91,23 @@ impl Cluster {
         ensures { ConfirmsGive self.old session result self.new }
     {
         self.passes.hand(session)
+    }
+
+    /// The greatest id of a publisher in the committed list, if there is one. It takes in what the list got since the last
+    /// question of this kind, each chunk once, and fails for want of memory alone.
+    pub fn greatest(&mut self, name: &[u8]) -> Result<Option<u64>, AllocError>
+        ensures greatest { IfOk result (λ id. id ≡ Greatest name.now self.old.state.cluster.committed) }
+        ensures same { self.new ≡ self.old }
+    {
+        self.index.greatest(self.replicas.list(), name)
+    }
+
+    /// The last offset that was stored for a consumer in the committed list, if there is one. It takes in what the list got
+    /// since the last question of this kind, each chunk once, and fails for want of memory alone.
+    pub fn stored(&mut self, name: &[u8]) -> Result<Option<u64>, AllocError>
+        ensures stored { IfOk result (λ offset. offset ≡ LastStored name.now self.old.state.cluster.committed) }
+        ensures same { self.new ≡ self.old }
+    {
+        self.index.stored(self.replicas.list(), name)
     }
 }
