@@ -9,3 +9,11 @@ pub mod Finds
 pub mod Opening
 pub mod Rising
 pub mod Leading
+pub mod Serving
+pub mod Spelled
+pub mod Offering
+pub mod Handing
+pub mod Bringing
+pub mod Led
+pub mod Lasting
+pub mod Indexing

@@ -4,3 +4,5 @@ pub mod Letters
 pub mod Happens
 pub mod Opens
 pub mod Leads
+pub mod Served
+pub mod Takes

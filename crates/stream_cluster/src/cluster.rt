@@ -1,33 +1,46 @@
-//! One stream over its members.
+//! One stream over its members, and what it does for those that use it.
 
-ghost use Rattle.std.specs.Prelude.{◌≡◌};
+ghost use Rattle.std.specs.Prelude.{◌≡◌, ◌⊎◌, ◌↔◌, IsTrue};
 ghost use Rattle.chunk_format.specs.Logs.{GoesOn};
+ghost use Rattle.cluster_core.specs.declared.outcome.Outcome.TheVariants.{Did};
 ghost use Rattle.cluster_core.specs.States.{IsStream, IfDid, Happened, Gives};
 ghost use Rattle.cluster_core.specs.Kept.{after_done};
 ghost use Rattle.stream_cluster.specs.Happens.{EventGives, receipt_due, numbered_state};
+ghost use Rattle.stream_cluster.specs.Served.{members_of, Moves};
 
 use crate::event::Event;
+use crate::index::Index;
 use crate::replicas::Replicas;
 use cluster_core::Outcome;
+use frame_wire::Limits;
 use segment_store::Receipt;
+use std::alloc::Global;
 use std::marker::Model;
+use stream_passes::Passes;
 
-/// One stream over its members: it is sound at every moment.
+/// One stream over its members, the passes that it gave, and the offers that wait for confirms. It is sound at every moment,
+/// each offer that waits stands in the sequence of the leader whose epoch runs, and each that is ready has its cause in the
+/// committed list.
 #[derive(Drop)]
 pub struct Cluster {
-    pub(crate) stream: u32,
+    pub(crate) alloc: Global,
+    pub(crate) limits: Limits,
     pub(crate) replicas: Replicas,
+    /// They keep the number of the stream.
+    pub(crate) passes: Passes,
+    /// Of the committed list.
+    pub(crate) index: Index,
 }
 
 impl Model for Cluster {
-    ghost use Rattle.cluster_core.specs.States.{IsStream};
-    ghost use Rattle.stream_cluster.specs.Happens.{StreamState, numbered_state};
+    ghost use Rattle.member_core.specs.Kept.{IsKnown};
+    ghost use Rattle.stream_cluster.specs.Served.{ServedState, served, IsServed};
 
-    ghost Value = { StreamState };
+    ghost Value = { ServedState };
 
-    ghost view = { λ c. numbered_state c.stream c.replicas };
+    ghost view = { λ c. served c.limits c.replicas c.passes };
 
-    ghost invariant = { λ c. IsStream c.replicas.cluster };
+    ghost invariant = { λ c. IsServed (served c.limits c.replicas c.passes) × IsKnown c.replicas.cluster.committed c.index.count c.index.tracking };
 }
 
 impl Replicas {
@@ -61,19 +74,47 @@ impl Replicas {
     }
 }
 
+/// Whether an event happened.
+fn is_did(outcome: &Outcome) -> bool
+    ensures { IsTrue result ↔ (outcome.now ≡ Did) }
+{
+    match outcome {
+        Outcome::Did => true,
+        Outcome::Nothing => false,
+        Outcome::Later { member: _ } => false,
+        Outcome::Last { epoch: _ } => false,
+        Outcome::Differs {
+            expected_end: _,
+            found_end: _,
+        } => false,
+        Outcome::Memory => false,
+    }
+}
+
 impl Cluster {
     /// One event happens, at a moment in milliseconds. It is Later where the receiver of a message, or the coordinator
     /// that is to elect, has a job pending; Last where no epoch follows; Differs where a disk has what was not left on it;
     /// and Nothing where the message, the member or the job of the receipt isn't there, or the member is down for a
     /// message, an election or a stop, or up for a restart or a reopening. Else it happened, unless memory ran out. After
-    /// every outcome but Did the stream is unchanged; the committed list only grows.
+    /// every outcome but Did the stream is unchanged; the committed list only grows. Offers that it then reaches are ready
+    /// for their confirms, and of the others those go on waiting whose epoch runs on; the rest are dropped.
     pub fn event(&mut self, event: &Event, now: u64) -> Outcome
-        ensures gives { EventGives event.now now result self.old self.new.state }
+        ensures gives { EventGives event.now now result (members_of self.old) self.new.state }
         ensures number { self.new.number ≡ self.old.number }
         ensures sound { IsStream self.new.state.cluster }
         ensures grows { GoesOn self.old.state.cluster.committed self.new.state.cluster.committed }
         ensures step { IfDid result (Happened now self.old.state.cluster self.new.state.cluster) }
+        ensures moved { IfDid result (Moves self.old self.new) }
+        ensures same { (result ≡ Did) ⊎ (self.new ≡ self.old) }
     {
-        self.replicas.happen(self.stream, event, now)
+        let number = self.passes.number();
+        let outcome = self.replicas.happen(number, event, now);
+        if !is_did(&outcome) {
+            return outcome;
+        }
+        let end = self.replicas.end();
+        let running = self.replicas.running();
+        self.passes.moved(end, running);
+        outcome
     }
 }

@@ -2,19 +2,21 @@
 
 ghost use Rattle.std.specs.Prelude.{◌≡◌, ◌≤◌, ◌++◌, ◌∷◌, [], length, map, IfOk, IfErr, OnOk};
 ghost use Rattle.replication_laws.specs.Openings.{start_seats};
-ghost use Rattle.stream_cluster.specs.Happens.{numbered_state};
+ghost use Rattle.stream_cluster.specs.Served.{served_first};
 ghost use Rattle.stream_cluster.specs.Opens.{AreNumbered, IsWhole, AllWhole, MayOpen, RefusedBy, started, start_of, opened_state};
 
 use crate::cluster::Cluster;
 use crate::fault::OpenFault;
+use crate::index::Index;
 use crate::place::Place;
 use crate::replicas::Replicas;
 use crate::whole::{refuse_ahead, refuse_broken, refuse_diverged};
 use epoch_coordinator::Coordinator;
-use frame_wire::Row;
+use frame_wire::{Limits, Row};
 use member_core::{Member, MemberStart};
 use segment_store::Recovered;
 use std::alloc::{AllocError, Global};
+use stream_passes::Passes;
 
 /// A member that comes up with what its disk had.
 fn seat_of(alloc: Global, members: u8, start: Recovered) -> Result<Place, AllocError>
@@ -72,12 +74,13 @@ fn refuse(alloc: Global, starts: &[Recovered], epoch: u64) -> Result<(), OpenFau
 
 impl Cluster {
     /// Opens a stream of 1 to 7 members over what their disks had, in order of number, and what the disk of the coordinator
-    /// had. All are up and stopped, and nothing is committed. It is Broken where the log of a member isn't whole, Ahead
+    /// had; its leaders take what the limits let them. All are up and stopped, and nothing is committed. It is Broken where the log of a member isn't whole, Ahead
     /// where a promise is above the epoch, and Diverged where two logs can't be those of one stream: all logs are looked at
-    /// first, by number, then all promises, then all pairs.
+    /// first, by number, then all promises, then all pairs. No pass was given yet.
     pub fn open(
         alloc: Global,
         stream: u32,
+        limits: Limits,
         starts: Row<Recovered>,
         epoch: u64,
     ) -> Result<Cluster, OpenFault>
@@ -85,7 +88,7 @@ impl Cluster {
         requires most { length starts ≤ 7 }
         requires numbered { AreNumbered starts }
         ensures may { OnOk result (MayOpen epoch starts) }
-        ensures ok { IfOk result (λ c. c ≡ numbered_state stream (opened_state epoch starts)) }
+        ensures ok { IfOk result (λ c. c ≡ served_first stream limits (opened_state epoch starts)) }
         ensures err { IfErr result (RefusedBy epoch starts) }
     {
         refuse(alloc, starts.as_slice(), epoch)?;
@@ -106,6 +109,12 @@ impl Cluster {
             committed: Vec::new(alloc),
             numbers: [0; 8],
         };
-        Ok(Cluster { stream, replicas })
+        Ok(Cluster {
+            alloc,
+            limits,
+            replicas,
+            passes: Passes::new(alloc, stream),
+            index: Index::nothing(alloc),
+        })
     }
 }

@@ -74,7 +74,7 @@ impl Cluster {
     pub fn stream(&self) -> u32
         ensures { result ≡ self.now.number }
     {
-        self.stream
+        self.passes.number()
     }
 
     /// The committed list: one chunk after the other from offset 0 on, with truthful snapshots. It only grows.

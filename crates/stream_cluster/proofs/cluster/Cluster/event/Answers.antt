@@ -1,24 +1,54 @@
-use Rattle.std.proofs.Common.{subst}
-use Rattle.chunk_format.specs.Logs.{GoesOn}
-use Rattle.cluster_core.specs.States.{IfDid, Happened}
-use Rattle.stream_cluster.specs.Happens.{StreamState, numbered_state}
-use Rattle.stream_cluster.proofs.Soundly.{event_goes, event_grows}
+use Rattle.stream_cluster.proofs.Indexing.{known_on}
+use Rattle.stream_cluster.proofs.Serving.{did, did_not}
 use Rattle.stream_cluster.proofs.cluster.Cluster.event.Goals as goal
 
+pub happen-outcome-requires : goal.happen-outcome-requires
+happen-outcome-requires c = c.self.invariant.0.stream
+
 pub invariant_of-self : goal.invariant_of-self
-invariant_of-self c = (event_goes c.args.event.now c.args.now c.happen.result (numbered_state c.self.inside.stream c.self.inside.replicas) c.happen.new.self c.happen.ensures c.self.invariant).0
+invariant_of-self c = ((did_not c.args.event.now c.args.now c.happen-outcome.result c.is_did.result c.number-number.result c.self.inside.limits c.self.inside.replicas c.happen-outcome.new.self c.self.inside.passes c.args.self.now c.self.view_is c.self.invariant.0 c.number-number.ensures c.happen-outcome.ensures c.is_did.ensures c.if-not-is_did.true).holds, known_on c.self.inside.limits c.self.inside.replicas c.self.inside.passes c.args.self.now c.happen-outcome.new.self.cluster.committed c.self.inside.index.count c.self.inside.index.tracking c.self.view_is c.self.invariant.1 (did_not c.args.event.now c.args.now c.happen-outcome.result c.is_did.result c.number-number.result c.self.inside.limits c.self.inside.replicas c.happen-outcome.new.self c.self.inside.passes c.args.self.now c.self.view_is c.self.invariant.0 c.number-number.ensures c.happen-outcome.ensures c.is_did.ensures c.if-not-is_did.true).grows)
+
+pub returns-then-not-is_did-clause-gives : goal.returns-then-not-is_did-clause-gives
+returns-then-not-is_did-clause-gives c = (did_not c.args.event.now c.args.now c.happen-outcome.result c.is_did.result c.number-number.result c.self.inside.limits c.self.inside.replicas c.happen-outcome.new.self c.self.inside.passes c.args.self.now c.self.view_is c.self.invariant.0 c.number-number.ensures c.happen-outcome.ensures c.is_did.ensures c.if-not-is_did.true).gives
+
+pub returns-then-not-is_did-clause-number : goal.returns-then-not-is_did-clause-number
+returns-then-not-is_did-clause-number c = (did_not c.args.event.now c.args.now c.happen-outcome.result c.is_did.result c.number-number.result c.self.inside.limits c.self.inside.replicas c.happen-outcome.new.self c.self.inside.passes c.args.self.now c.self.view_is c.self.invariant.0 c.number-number.ensures c.happen-outcome.ensures c.is_did.ensures c.if-not-is_did.true).number
+
+pub returns-then-not-is_did-clause-sound : goal.returns-then-not-is_did-clause-sound
+returns-then-not-is_did-clause-sound c = (did_not c.args.event.now c.args.now c.happen-outcome.result c.is_did.result c.number-number.result c.self.inside.limits c.self.inside.replicas c.happen-outcome.new.self c.self.inside.passes c.args.self.now c.self.view_is c.self.invariant.0 c.number-number.ensures c.happen-outcome.ensures c.is_did.ensures c.if-not-is_did.true).sound
+
+pub returns-then-not-is_did-clause-grows : goal.returns-then-not-is_did-clause-grows
+returns-then-not-is_did-clause-grows c = (did_not c.args.event.now c.args.now c.happen-outcome.result c.is_did.result c.number-number.result c.self.inside.limits c.self.inside.replicas c.happen-outcome.new.self c.self.inside.passes c.args.self.now c.self.view_is c.self.invariant.0 c.number-number.ensures c.happen-outcome.ensures c.is_did.ensures c.if-not-is_did.true).grows
+
+pub returns-then-not-is_did-clause-step : goal.returns-then-not-is_did-clause-step
+returns-then-not-is_did-clause-step c = (did_not c.args.event.now c.args.now c.happen-outcome.result c.is_did.result c.number-number.result c.self.inside.limits c.self.inside.replicas c.happen-outcome.new.self c.self.inside.passes c.args.self.now c.self.view_is c.self.invariant.0 c.number-number.ensures c.happen-outcome.ensures c.is_did.ensures c.if-not-is_did.true).step
+
+pub returns-then-not-is_did-clause-moved : goal.returns-then-not-is_did-clause-moved
+returns-then-not-is_did-clause-moved c = (did_not c.args.event.now c.args.now c.happen-outcome.result c.is_did.result c.number-number.result c.self.inside.limits c.self.inside.replicas c.happen-outcome.new.self c.self.inside.passes c.args.self.now c.self.view_is c.self.invariant.0 c.number-number.ensures c.happen-outcome.ensures c.is_did.ensures c.if-not-is_did.true).moved
+
+pub returns-then-not-is_did-clause-same : goal.returns-then-not-is_did-clause-same
+returns-then-not-is_did-clause-same c = (did_not c.args.event.now c.args.now c.happen-outcome.result c.is_did.result c.number-number.result c.self.inside.limits c.self.inside.replicas c.happen-outcome.new.self c.self.inside.passes c.args.self.now c.self.view_is c.self.invariant.0 c.number-number.ensures c.happen-outcome.ensures c.is_did.ensures c.if-not-is_did.true).same
+
+pub invariant_of-self-2 : goal.invariant_of-self-2
+invariant_of-self-2 c = ((did c.args.event.now c.args.now c.happen-outcome.result c.is_did.result c.number-number.result c.self.inside.limits c.self.inside.replicas c.happen-outcome.new.self c.self.inside.passes c.args.self.now c.self.view_is c.self.invariant.0 c.number-number.ensures c.happen-outcome.ensures c.is_did.ensures c.end-end.result c.running-running.result c.moved.new.self c.if-not-is_did.false c.end-end.ensures c.running-running.ensures c.moved.ensures).holds, known_on c.self.inside.limits c.self.inside.replicas c.self.inside.passes c.args.self.now c.happen-outcome.new.self.cluster.committed c.self.inside.index.count c.self.inside.index.tracking c.self.view_is c.self.invariant.1 (did c.args.event.now c.args.now c.happen-outcome.result c.is_did.result c.number-number.result c.self.inside.limits c.self.inside.replicas c.happen-outcome.new.self c.self.inside.passes c.args.self.now c.self.view_is c.self.invariant.0 c.number-number.ensures c.happen-outcome.ensures c.is_did.ensures c.end-end.result c.running-running.result c.moved.new.self c.if-not-is_did.false c.end-end.ensures c.running-running.ensures c.moved.ensures).grows)
+
+pub returns-clause-gives : goal.returns-clause-gives
+returns-clause-gives c = (did c.args.event.now c.args.now c.happen-outcome.result c.is_did.result c.number-number.result c.self.inside.limits c.self.inside.replicas c.happen-outcome.new.self c.self.inside.passes c.args.self.now c.self.view_is c.self.invariant.0 c.number-number.ensures c.happen-outcome.ensures c.is_did.ensures c.end-end.result c.running-running.result c.moved.new.self c.if-not-is_did.false c.end-end.ensures c.running-running.ensures c.moved.ensures).gives
+
+pub returns-clause-number : goal.returns-clause-number
+returns-clause-number c = (did c.args.event.now c.args.now c.happen-outcome.result c.is_did.result c.number-number.result c.self.inside.limits c.self.inside.replicas c.happen-outcome.new.self c.self.inside.passes c.args.self.now c.self.view_is c.self.invariant.0 c.number-number.ensures c.happen-outcome.ensures c.is_did.ensures c.end-end.result c.running-running.result c.moved.new.self c.if-not-is_did.false c.end-end.ensures c.running-running.ensures c.moved.ensures).number
 
 pub returns-clause-sound : goal.returns-clause-sound
-returns-clause-sound c = (event_goes c.args.event.now c.args.now c.happen.result (numbered_state c.self.inside.stream c.self.inside.replicas) c.happen.new.self c.happen.ensures c.self.invariant).0
-
-pub returns-clause-step : goal.returns-clause-step
-returns-clause-step c =
-    let s = c.self.inside in
-    subst (λ (x : StreamState). IfDid c.happen.result (Happened c.args.now x.state.cluster c.happen.new.self.cluster)) c.self.view_is
-    (event_goes c.args.event.now c.args.now c.happen.result (numbered_state s.stream s.replicas) c.happen.new.self c.happen.ensures c.self.invariant).1
+returns-clause-sound c = (did c.args.event.now c.args.now c.happen-outcome.result c.is_did.result c.number-number.result c.self.inside.limits c.self.inside.replicas c.happen-outcome.new.self c.self.inside.passes c.args.self.now c.self.view_is c.self.invariant.0 c.number-number.ensures c.happen-outcome.ensures c.is_did.ensures c.end-end.result c.running-running.result c.moved.new.self c.if-not-is_did.false c.end-end.ensures c.running-running.ensures c.moved.ensures).sound
 
 pub returns-clause-grows : goal.returns-clause-grows
-returns-clause-grows c =
-    let s = c.self.inside in
-    subst (λ (x : StreamState). GoesOn x.state.cluster.committed c.happen.new.self.cluster.committed) c.self.view_is
-    (event_grows c.args.event.now c.args.now c.happen.result (numbered_state s.stream s.replicas) c.happen.new.self c.happen.ensures c.self.invariant)
+returns-clause-grows c = (did c.args.event.now c.args.now c.happen-outcome.result c.is_did.result c.number-number.result c.self.inside.limits c.self.inside.replicas c.happen-outcome.new.self c.self.inside.passes c.args.self.now c.self.view_is c.self.invariant.0 c.number-number.ensures c.happen-outcome.ensures c.is_did.ensures c.end-end.result c.running-running.result c.moved.new.self c.if-not-is_did.false c.end-end.ensures c.running-running.ensures c.moved.ensures).grows
+
+pub returns-clause-step : goal.returns-clause-step
+returns-clause-step c = (did c.args.event.now c.args.now c.happen-outcome.result c.is_did.result c.number-number.result c.self.inside.limits c.self.inside.replicas c.happen-outcome.new.self c.self.inside.passes c.args.self.now c.self.view_is c.self.invariant.0 c.number-number.ensures c.happen-outcome.ensures c.is_did.ensures c.end-end.result c.running-running.result c.moved.new.self c.if-not-is_did.false c.end-end.ensures c.running-running.ensures c.moved.ensures).step
+
+pub returns-clause-moved : goal.returns-clause-moved
+returns-clause-moved c = (did c.args.event.now c.args.now c.happen-outcome.result c.is_did.result c.number-number.result c.self.inside.limits c.self.inside.replicas c.happen-outcome.new.self c.self.inside.passes c.args.self.now c.self.view_is c.self.invariant.0 c.number-number.ensures c.happen-outcome.ensures c.is_did.ensures c.end-end.result c.running-running.result c.moved.new.self c.if-not-is_did.false c.end-end.ensures c.running-running.ensures c.moved.ensures).moved
+
+pub returns-clause-same : goal.returns-clause-same
+returns-clause-same c = (did c.args.event.now c.args.now c.happen-outcome.result c.is_did.result c.number-number.result c.self.inside.limits c.self.inside.replicas c.happen-outcome.new.self c.self.inside.passes c.args.self.now c.self.view_is c.self.invariant.0 c.number-number.ensures c.happen-outcome.ensures c.is_did.ensures c.end-end.result c.running-running.result c.moved.new.self c.if-not-is_did.false c.end-end.ensures c.running-running.ensures c.moved.ensures).same

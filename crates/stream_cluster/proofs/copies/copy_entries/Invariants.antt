@@ -1,0 +1,6 @@
+use Rattle.std.proofs.Common.{◌≡◌, take, map}
+use Rattle.stream_terms.specs.Steps.{item_entry}
+use Rattle.stream_cluster.proofs.copies.copy_entries.Given as goal
+
+abbrev pub invariant-items : goal.invariant-items
+invariant-items l = l.out ≡ map item_entry (take l.item-index l.items)
