@@ -33,11 +33,11 @@ abbrev pub all_bytes : List Piece → List ℕ
 all_bytes [] = []
 all_bytes (p ∷ ps) = p.bytes ++ all_bytes ps
 
--- these feeds of a session, one after another, and all bytes that they gave
+-- These feeds of a session, one after another, and all bytes that they gave. Before, between and behind them the hub may go on.
 abbrev pub AreFed : {S : Type 0} → HubMeaning S → SessionState → List Piece → List ℕ → SessionState → S → S → Type 0
-AreFed m old [] gave new h0 h1 = (gave ≡ []) × (new ≡ old) × (h1 ≡ h0)
-AreFed {S} m old (p ∷ ps) gave new h0 h1 = (first : List ℕ) × (rest : List ℕ) × (mid : SessionState) × (h : S)
-    × (gave ≡ first ++ rest) × FeedGives m p.now p.bytes old first mid h0 h × AreFed m mid ps rest new h h1
+AreFed m old [] gave new h0 h1 = (gave ≡ []) × (new ≡ old) × m.seen.later h0 h1
+AreFed {S} m old (p ∷ ps) gave new h0 h1 = (first : List ℕ) × (rest : List ℕ) × (mid : SessionState) × (before : S) × (after : S)
+    × (gave ≡ first ++ rest) × m.seen.later h0 before × FeedGives m p.now p.bytes old first mid before after × AreFed m mid ps rest new after h1
 
 -- the moment of the piece with which so many bytes have come
 abbrev pub when : List Piece → ℕ → ℕ
@@ -62,11 +62,12 @@ pub record Passes (old new : Tables) : Type 0 where
   pub interval : moments.heartbeat ≡ old.moments.heartbeat
   pub same : new ≡ record old { moments = moments }
 
--- Commands are answered one after another, each at its moment. Before each of them and behind the last time may pass.
+-- Commands are answered one after another, each at its moment. Before each of them and behind the last time may pass, and the
+-- hub may go on.
 abbrev pub StepsAt : {S : Type 0} → HubMeaning S → Identity → Tables → List Timed → List Reply → Tables → S → S → Type 0
-StepsAt m who old [] said new h0 h1 = (said ≡ []) × Passes old new × (h1 ≡ h0)
-StepsAt {S} m who old (c ∷ cs) said new h0 h1 = (first : List Reply) × (rest : List Reply) × (ready : Tables) × (mid : Tables) × (h : S)
-    × (said ≡ first ++ rest) × Passes old ready × CommandStep m who c.now ready c.command first mid h0 h × StepsAt m who mid cs rest new h h1
+StepsAt m who old [] said new h0 h1 = (said ≡ []) × Passes old new × m.seen.later h0 h1
+StepsAt {S} m who old (c ∷ cs) said new h0 h1 = (first : List Reply) × (rest : List Reply) × (ready : Tables) × (mid : Tables) × (before : S) × (after : S)
+    × (said ≡ first ++ rest) × Passes old ready × m.seen.later h0 before × CommandStep m who c.now ready c.command first mid before after × StepsAt m who mid cs rest new after h1
 
 -- The commands of the front of what had come and of all pieces are answered, each at the moment of the piece that completed it.
 pub record AnsweredAt {S : Type 0} (m : HubMeaning S) (who : Identity) (max : ℕ) (before : List ℕ) (pieces : List Piece) (old : Tables) (said : List Reply) (new : Tables) (rest : List ℕ) (h0 h1 : S) : Type 0 where

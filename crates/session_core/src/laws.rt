@@ -11,7 +11,7 @@ pub fn pieces_join<H: Hub>()
 {}
 
 /// In whatever pieces the bytes come, each at its moment, feeds give the frames of one run: each command of the joined pieces
-/// is answered with the moment of the piece that completed it. It does nothing.
+/// is answered with the moment of the piece that completed it. Between two feeds the hub may go on. It does nothing.
 pub fn feeds_join<H: Hub>()
     ensures { FeedsJoin H.meaning }
 {}
