@@ -28,9 +28,9 @@ use Rattle.session_core.specs.declared.outgoing.Outgoing.{Outgoing}
 pub confirm_fits : (publisher : ℕ) (ids : List ℕ) → publisher < 2 ^ 8 → All IsId ids → length ids ≤ 1048576 → Fits (Data (PublishConfirm publisher ids))
 confirm_fits publisher ids small each few = ids_fit.confirms publisher ids small each (omega (arith, few))
 
-pub metadata_update_fits : (stream : Option (List ℕ)) → IsText stream → Fits (Admin (of_admin.MetadataUpdate 6 stream))
-metadata_update_fits stream text =
-    ((tt, (omega arith, text)), omega (arith, body_length command_table (Admin (of_admin.MetadataUpdate 6 stream)), length-append (u16_bytes 6) (text_bytes stream), u16_length 6, text_short stream text))
+pub metadata_update_fits : (code : ℕ) (stream : Option (List ℕ)) → code < 2 ^ 16 → IsText stream → Fits (Admin (of_admin.MetadataUpdate code stream))
+metadata_update_fits code stream small text =
+    ((tt, (small, text)), omega (arith, body_length command_table (Admin (of_admin.MetadataUpdate code stream)), length-append (u16_bytes code) (text_bytes stream), u16_length code, text_short stream text))
 
 pub update_fits : (corr id active : ℕ) → corr < 2 ^ 32 → id < 2 ^ 8 → active ≤ 1 → Fits (Admin (of_admin.ConsumerUpdate corr id active))
 update_fits corr id active a b c =
