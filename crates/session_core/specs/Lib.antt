@@ -1,6 +1,7 @@
 pub mod Ends
 pub mod Publishing
 pub mod Consuming
+pub mod Outgoing
 pub mod Offsets
 pub mod Streams
 pub mod Commands
@@ -14,4 +15,3 @@ pub mod Turning
 pub mod Delivering
 pub mod Polling
 pub mod Delivered
-pub mod Outgoing
