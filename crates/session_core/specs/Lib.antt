@@ -1,6 +1,7 @@
 pub mod Ends
 pub mod Publishing
 pub mod Consuming
+pub mod Outgoing
 pub mod Offsets
 pub mod Streams
 pub mod Commands
@@ -19,4 +20,3 @@ pub mod Causes
 pub mod Delivered
 pub mod Sessions
 pub mod Preparing
-pub mod Outgoing
