@@ -12,4 +12,6 @@ mod opens;
 #[cfg(test)]
 mod played;
 #[cfg(test)]
+mod scripts;
+#[cfg(test)]
 mod sure_disk;

@@ -3,11 +3,12 @@
 use crate::answers::{offer_fault, outcome, taken};
 use crate::chunks::{Log, had, three};
 use crate::sure_disk::SureDisk;
-use chunk_format::Entry;
+use chunk_format::{Entry, Stored};
+use cluster_core::Numbered;
 use command_data::Tagged;
-use epoch_coordinator::Job;
+use epoch_coordinator::{Job, Message};
 use frame_wire::{Limits, Octets, Row, Text};
-use segment_store::{EpochStore, MemberStore, Receipt};
+use segment_store::{EpochStore, MemberStore, Receipt, Recovered};
 use std::alloc::{AllocError, Global};
 use stream_cluster::{Cluster, Event};
 use stream_terms::Pass;
@@ -29,6 +30,10 @@ pub(crate) enum Step {
     Stop(u8),
     /// A member comes up with this promise and log: the outcome.
     Restart(u8, u64, Log),
+    /// A member goes down and comes up with what it has: the outcome.
+    Again(u8),
+    /// What may have been lost is sent again: the outcome.
+    Nudge,
     /// The epoch that runs, or 0.
     Running,
     /// How many chunks the committed list has.
@@ -87,6 +92,33 @@ fn epochs_of(alloc: Global, disk: &mut SureDisk) -> Result<EpochStore, AllocErro
         Ok(epochs) => Ok(epochs),
         Err(_) => Err(AllocError),
     }
+}
+
+/// A message: its receiver, the name of its kind, and its epoch.
+pub(crate) type Mail = (u8, &'static str, u64);
+
+fn mailed(letter: &Numbered) -> Mail {
+    let to = letter.sent.to;
+    match &letter.sent.message {
+        Message::Stop { epoch } => (to, "stop", *epoch),
+        Message::Stopped { epoch, .. } => (to, "stopped", *epoch),
+        Message::Open { epoch } => (to, "open", *epoch),
+        Message::Follow { epoch, .. } => (to, "follow", *epoch),
+        Message::Shape { epoch, .. } => (to, "shape", *epoch),
+        Message::Ask { epoch, .. } => (to, "ask", *epoch),
+        Message::Append { epoch, .. } => (to, "append", *epoch),
+    }
+}
+
+/// The same chunks.
+fn shares(alloc: Global, log: &[Stored]) -> Result<Row<Stored>, AllocError> {
+    let mut row = Row::new(alloc);
+    for chunk in log {
+        if row.push(chunk.share()?).is_err() {
+            return Err(AllocError);
+        }
+    }
+    Ok(row)
 }
 
 fn perform(
@@ -219,6 +251,38 @@ impl Played {
         }
     }
 
+    /// What a member has that is up.
+    fn kept(&self, member: u8) -> Option<Recovered> {
+        let promise = self.cluster.promise(member)?;
+        let log = self.cluster.log(member)?;
+        let chunks = shares(self.alloc, log).ok()?;
+        Some(Recovered {
+            member,
+            promise,
+            chunks,
+        })
+    }
+
+    fn again(&mut self, member: u8) -> u64 {
+        let Some(kept) = self.kept(member) else {
+            return 9_000_000;
+        };
+        self.happen(&Event::Stop { member });
+        self.happen(&Event::Restart(kept))
+    }
+
+    /// Whether these messages were sent from a place on, and no others.
+    pub(crate) fn has_sent(&self, from: usize, mail: &[Mail]) -> bool {
+        let letters = self.cluster.messages();
+        if letters.len() < from || letters.len() - from != mail.len() {
+            return false;
+        }
+        letters[from..]
+            .iter()
+            .zip(mail)
+            .all(|(letter, wanted)| mailed(letter) == *wanted)
+    }
+
     fn held(&self, member: u8) -> u64 {
         match self.cluster.log(member) {
             None => 9_000_000,
@@ -297,6 +361,8 @@ impl Played {
             Step::Forget => self.happen(&Event::Forget),
             Step::Stop(member) => self.happen(&Event::Stop { member }),
             Step::Restart(member, promise, log) => self.restart(member, promise, log),
+            Step::Again(member) => self.again(member),
+            Step::Nudge => self.happen(&Event::Nudge),
             Step::Running => self.cluster.running().unwrap_or(0),
             Step::Committed => self.cluster.committed().len() as u64,
             Step::Held(member) => self.held(member),
