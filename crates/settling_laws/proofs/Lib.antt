@@ -1,1 +1,5 @@
 pub mod Stepping
+pub mod Nexts
+pub mod Ordered
+pub mod Evented
+pub mod Ending
