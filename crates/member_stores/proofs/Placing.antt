@@ -26,6 +26,15 @@ own member xs x lt = get_or-set_same xs member x None lt
 pub others : (member : ℕ) (xs : List (Option Shelf)) (x : Option Shelf) → OthersStay member xs (slice_set xs member x)
 others member xs x = λ other apart. get_or-set_other xs member other x None apart
 
+-- what stands at a place that is there
+pub at_place : (member len n : ℕ) (xs now : List (Option Shelf)) (x : Option Shelf) → now ≡ xs → member < len → len ≡ n → n ≡ length xs → x ≡ slice_index_or xs member x → shelf_of member now ≡ x
+at_place member len n xs now x is lt len_is n_is at = ap (shelf_of member) is ∙ sym (at ∙ other_default member xs x None (omega (arith, lt, len_is, n_is)))
+  where
+    other_default : (i : ℕ) (ys : List (Option Shelf)) (d e : Option Shelf) → i < length ys → slice_index_or ys i d ≡ slice_index_or ys i e
+    other_default i [] d e lt = absurd (omega arith)
+    other_default zero (y ∷ ys) d e lt = refl
+    other_default (suc i) (y ∷ ys) d e lt = other_default i ys d e (omega arith)
+
 -- a store is put at a place that was made
 pub put_own : (member : ℕ) (xs ys zs : List (Option Shelf)) (x : Option Shelf) → member < length ys → zs ≡ slice_set ys member x → shelf_of member zs ≡ x
 put_own member xs ys zs x lt is = ap (shelf_of member) is ∙ own member ys x lt

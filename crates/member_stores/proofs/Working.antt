@@ -52,3 +52,10 @@ stays_backed {D} state a (Err (Store faults.Memory)) old new d e chunks backed s
 stays_backed state a (Err (Store faults.Disk)) old new d e chunks backed stands apart memory gives = tt
 stays_backed state a (Err (Store (faults.Damaged segment at))) old new d e chunks backed stands apart memory gives = tt
 stays_backed state a (Err (Store (faults.DamagedWords place))) old new d e chunks backed stands apart memory gives = tt
+
+-- what holds of one that is there holds of the other
+pub for_it : (P : Shelf → Type 0) (o : Option Shelf) (x y : Shelf) → o ≡ Some x → o ≡ Some y → P x → P y
+for_it P o x y is at p = subst P (cc (is, at)) p
+
+pub on_new : (P : Shelf → Type 0) (r : Result JobDone WorkFault) (o o' : Option Shelf) → o' ≡ o → OnOk r (IfSome o P) → OnOk r (IfSome o' P)
+on_new P r o o' is h = subst (λ (x : Option Shelf). OnOk r (IfSome x P)) (sym is) h

@@ -1,20 +1,20 @@
-use Rattle.std.proofs.Common.{rules, ◌≡◌, ◌+◌, ◌<◌, ◌≤◌, ℕ, IfErr, IfSome, IsErrOf, IsSome, List, None, Some, OnErr, OnOk, length, true, ◌-◌, ◌*◌, ◌/◌, ◌%◌, Bool, false, nat_eq, nat_lt, [], ◌∷◌, ◌++◌, slice_index_or, slice_set, bit_and, bit_or, Fits, w8, w32, w64, Bor, MutBor}
-use Rattle.std.specs.Vec.{vec_capacity}
-use Rattle.disk_calls.specs.Disk.{HasCause}
-use Rattle.disk_calls.specs.Frames.{OtherStreams}
-use Rattle.chunk_format.specs.declared.chunk.Chunk.{Chunk}
-use Rattle.segment_store.specs.declared.fault.StoreFault.TheVariants as faults
-use Rattle.segment_store.specs.Stores.{BackedStore}
-use Rattle.member_stores.specs.declared.fault.WorkFault.TheVariants.{Apart, NoStore, Store}
+use Rattle.std.proofs.Common.{◌<◌, length, sym, ◌∙◌, arith}
 use Rattle.member_stores.specs.declared.shelf.Shelf.{Shelf}
-use Rattle.member_stores.specs.Shelves.{BackedShelf, OthersStay, fresh, has_done, keeping, shelf_of, store_on}
-use Rattle.member_stores.specs.Works.{IsToDo, JobLeft, JobStands, Suits, UnlessBroken, WorkGives, asked}
+use Rattle.member_stores.specs.Shelves.{shelf_of}
+use Rattle.member_stores.specs.Works.{JobStands}
+use Rattle.member_stores.proofs.Placing.{at_place, own}
+use Rattle.member_stores.proofs.Working.{on_new}
 use Rattle.member_stores.proofs.stores.Stores.perform.Goals as goal
 
--- src/stores.rt:188:5
 pub returns-clause-left : goal.returns-clause-left
-returns-clause-left g c = ?
+returns-clause-left g c = λ told on chunks todo suits backed.
+    let at = at_place c.args.member c.len.result _ c.self.inside.shelves.items c.args.self.now c.index_mut.result.now (sym c.self.view_is) c.if-place-len.false c.len.ensures c.self.inside.shelves.ok.0 c.index_mut.ensures.value in
+    c.perform_on.ensures.left told on chunks (record { there = sym at ∙ todo.there; undone = todo.undone }) suits backed
 
--- src/stores.rt:188:5
 pub returns-clause-stands : goal.returns-clause-stands
-returns-clause-stands g c = ?
+returns-clause-stands g c = λ told on chunks todo backed.
+    let at = at_place c.args.member c.len.result _ c.self.inside.shelves.items c.args.self.now c.index_mut.result.now (sym c.self.view_is) c.if-place-len.false c.len.ensures c.self.inside.shelves.ok.0 c.index_mut.ensures.value in
+    let lt : c.args.member < length c.self.inside.shelves.items = omega (arith, c.if-place-len.false, c.len.ensures, c.self.inside.shelves.ok.0) in
+    on_new (λ (x : Shelf). JobStands c.args.job.now on.store x.store chunks (g.D.Disk.state c.perform_on.new.disk)) c.perform_on.result c.perform_on.new.shelf _
+      (own c.args.member c.self.inside.shelves.items c.perform_on.new.shelf lt)
+      (c.perform_on.ensures.stands told on chunks (record { there = sym at ∙ todo.there; undone = todo.undone }) backed)
