@@ -6,3 +6,4 @@ pub mod Opens
 pub mod Leads
 pub mod Served
 pub mod Takes
+pub mod Settles
