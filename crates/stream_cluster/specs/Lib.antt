@@ -6,4 +6,3 @@ pub mod Opens
 pub mod Leads
 pub mod Served
 pub mod Takes
-pub mod Settles

@@ -4,7 +4,6 @@ ghost use Rattle.std.specs.Prelude.{◌≡◌, ◌⊎◌, ◌↔◌, IsTrue};
 ghost use Rattle.chunk_format.specs.Logs.{GoesOn};
 ghost use Rattle.cluster_core.specs.declared.outcome.Outcome.TheVariants.{Did};
 ghost use Rattle.cluster_core.specs.States.{IsStream, IfDid, Happened, Gives};
-ghost use Rattle.stream_cluster.specs.declared.event.Event.TheVariants as events;
 ghost use Rattle.cluster_core.specs.Kept.{after_done};
 ghost use Rattle.stream_cluster.specs.Happens.{EventGives, receipt_due, numbered_state};
 ghost use Rattle.stream_cluster.specs.Served.{members_of, Moves};
@@ -76,7 +75,7 @@ impl Replicas {
 }
 
 /// Whether an event happened.
-pub(crate) fn is_did(outcome: &Outcome) -> bool
+fn is_did(outcome: &Outcome) -> bool
     ensures { IsTrue result ↔ (outcome.now ≡ Did) }
 {
     match outcome {
@@ -110,27 +109,6 @@ impl Cluster {
     {
         let number = self.passes.number();
         let outcome = self.replicas.happen(number, event, now);
-        if !is_did(&outcome) {
-            return outcome;
-        }
-        let end = self.replicas.end();
-        let running = self.replicas.running();
-        self.passes.moved(end, running);
-        outcome
-    }
-
-    /// A job of which there is a receipt is done, as by the event, which takes the receipt.
-    pub(crate) fn done(&mut self, receipt: &Receipt, now: u64) -> Outcome
-        ensures gives { EventGives (events.Done receipt.now) now result (members_of self.old) self.new.state }
-        ensures number { self.new.number ≡ self.old.number }
-        ensures sound { IsStream self.new.state.cluster }
-        ensures grows { GoesOn self.old.state.cluster.committed self.new.state.cluster.committed }
-        ensures step { IfDid result (Happened now self.old.state.cluster self.new.state.cluster) }
-        ensures moved { IfDid result (Moves self.old self.new) }
-        ensures same { (result ≡ Did) ⊎ (self.new ≡ self.old) }
-    {
-        let number = self.passes.number();
-        let outcome = self.replicas.receive(number, receipt);
         if !is_did(&outcome) {
             return outcome;
         }
