@@ -34,6 +34,9 @@ pub record Moving (old new : ServedState) : Type 0 where
 pub record Progress (now : ℕ) (stage : Stage) (old new : ServedState) : Type 0 where
   pub steps : Settling now (turn Jobs old.state.cluster) (turn stage new.state.cluster)
   pub moving : Moving old new
+
+-- its number and the count of its members stay
+pub record SameStream (old new : ServedState) : Type 0 where
   pub number : new.number ≡ old.number
   pub seats : length new.state.cluster.seats ≡ length old.state.cluster.seats
 

@@ -2,7 +2,6 @@
 
 ghost use Rattle.std.specs.Prelude.{◌≡◌, ◌≢◌, ◌≤◌, suc, true, false, length, None, Some, IsSome, IfOk, IfSome};
 ghost use Rattle.disk_calls.specs.Frames.{Besides, OtherStreams};
-ghost use Rattle.chunk_format.specs.Logs.{GoesOn};
 ghost use Rattle.gated_words.specs.Files.{second_file};
 ghost use Rattle.gated_words.specs.Backing.{Backs};
 ghost use Rattle.segment_store.specs.Receipts.{JobDone};
@@ -11,11 +10,10 @@ ghost use Rattle.member_stores.specs.Shelves.{BackedShelf, OthersStay, keeping, 
 ghost use Rattle.member_stores.specs.Works.{UnlessBroken};
 ghost use Rattle.cluster_core.specs.declared.outcome.Outcome.TheVariants as outcomes;
 ghost use Rattle.cluster_core.specs.Parts.{letter_of};
-ghost use Rattle.cluster_core.specs.States.{IsStream};
 ghost use Rattle.stream_cluster.specs.Happens.{EventGives};
 ghost use Rattle.stream_cluster.specs.declared.event.Event.TheVariants as events;
 ghost use Rattle.stream_cluster.specs.Served.{Moves, ServedState, members_of};
-ghost use Rattle.stream_settle.specs.Settles.{Advances, AllInHand, DisksGo, IsAtRest, Progress, around, is_memory};
+ghost use Rattle.stream_settle.specs.Settles.{Advances, AllInHand, DisksGo, IsAtRest, Progress, SameStream, around, is_memory};
 
 use cluster_core::{Numbered, Outcome};
 use disk_calls::Disk;
@@ -192,6 +190,7 @@ fn answer_epoch<D: Disk>(
 ) -> Settled
     requires due { next_job cluster.old.state.cluster ≡ Some 0 }
     requires backed { D.tells → Backs epochs.old (D.state disk.old) }
+    ensures same { SameStream cluster.old cluster.new }
     ensures advances { Advances now cluster.old cluster.new }
     ensures backed { D.tells → Backs epochs.new (D.state disk.new) }
     ensures id { epochs.new.id ≡ epochs.old.id }
@@ -233,6 +232,7 @@ fn work<D: Disk>(
 fn receive(cluster: &mut Cluster, stores: &mut Stores, member: u8, receipt: Receipt, now: u64) -> Settled
     requires due { next_job cluster.old.state.cluster ≡ Some member }
     requires of { receipt.member ≡ member }
+    ensures same { SameStream cluster.old cluster.new }
     ensures advances { Advances now cluster.old cluster.new }
     ensures others { OthersStay member stores.old stores.new }
     ensures did { result ≡ Settled.Did → stores.new ≡ stores.old }
@@ -250,7 +250,8 @@ fn receive(cluster: &mut Cluster, stores: &mut Stores, member: u8, receipt: Rece
 /// The coordinator, number 0, or a member whose job was answered with a fault goes down.
 fn fail(cluster: &mut Cluster, member: u8, now: u64) -> Settled
     requires { next_job cluster.old.state.cluster ≡ Some member }
-    ensures { Advances now cluster.old cluster.new }
+    ensures same { SameStream cluster.old cluster.new }
+    ensures advances { Advances now cluster.old cluster.new }
 {
     turn(cluster, &Event::Stop { member }, now)
 }
@@ -258,6 +259,7 @@ fn fail(cluster: &mut Cluster, member: u8, now: u64) -> Settled
 /// A member's job was answered with a fault: its store goes, and it goes down. Want of memory is none.
 fn fail_member(cluster: &mut Cluster, stores: &mut Stores, member: u8, fault: &WorkFault, now: u64) -> Settled
     requires { next_job cluster.old.state.cluster ≡ Some member }
+    ensures same { SameStream cluster.old cluster.new }
     ensures advances { Advances now cluster.old cluster.new }
     ensures memory { is_memory fault.now ≡ true → stores.new ≡ stores.old }
     ensures gone { is_memory fault.now ≡ false → shelf_of member stores.new ≡ None }
@@ -280,6 +282,7 @@ fn answer_member<D: Disk>(
 ) -> Settled
     requires due { next_job cluster.old.state.cluster ≡ Some member }
     requires backed { D.tells → BackedShelf (shelf_of member stores.old) (D.state disk.old) }
+    ensures same { SameStream cluster.old cluster.new }
     ensures advances { Advances now cluster.old cluster.new }
     ensures backed { D.tells → BackedShelf (shelf_of member stores.new) (D.state disk.new) }
     ensures stores { OthersStay member stores.old stores.new }
@@ -305,6 +308,7 @@ fn answer<D: Disk>(
     requires count { length disks.old ≡ suc (length cluster.old.state.cluster.seats) }
     requires due { next_job cluster.old.state.cluster ≡ Some member }
     requires in_hand { D.tells → AllInHand D.state (around disks.old epochs.old stores.old) }
+    ensures same { SameStream cluster.old cluster.new }
     ensures advances { Advances now cluster.old cluster.new }
     ensures in_hand { D.tells → AllInHand D.state (around disks.new epochs.new stores.new) }
     ensures disks { DisksGo D.state cluster.old.number (around disks.old epochs.old stores.old) (around disks.new epochs.new stores.new) }
@@ -326,6 +330,7 @@ fn perform_next<D: Disk>(
     requires few { length cluster.old.state.cluster.seats ≤ 7 }
     requires count { length disks.old ≡ suc (length cluster.old.state.cluster.seats) }
     requires in_hand { D.tells → AllInHand D.state (around disks.old epochs.old stores.old) }
+    ensures same { SameStream cluster.old cluster.new }
     ensures advances { Advances now cluster.old cluster.new }
     ensures rest { result ≡ Turned.Rest → next_job cluster.new.state.cluster ≡ None }
     ensures in_hand { D.tells → AllInHand D.state (around disks.new epochs.new stores.new) }
@@ -351,6 +356,7 @@ fn perform_all<D: Disk>(
     requires few { length cluster.old.state.cluster.seats ≤ 7 }
     requires count { length disks.old ≡ suc (length cluster.old.state.cluster.seats) }
     requires in_hand { D.tells → AllInHand D.state (around disks.old epochs.old stores.old) }
+    ensures same { SameStream cluster.old cluster.new }
     ensures advances { Advances now cluster.old cluster.new }
     ensures rest { result ≡ Settled.Did → next_job cluster.new.state.cluster ≡ None }
     ensures in_hand { D.tells → AllInHand D.state (around disks.new epochs.new stores.new) }
@@ -368,6 +374,7 @@ fn perform_all<D: Disk>(
 /// With no job pending, the first message that is due is delivered.
 fn deliver_next(cluster: &mut Cluster, now: u64) -> Turned
     requires { next_job cluster.old.state.cluster ≡ None }
+    ensures same { SameStream cluster.old cluster.new }
     ensures advances { (start : ServedState) → Progress now Letters start cluster.old → Progress now Letters start cluster.new }
     ensures rest { result ≡ Turned.Rest → (cluster.new ≡ cluster.old) × (next_letter cluster.new.state.cluster ≡ None) }
 {
@@ -391,6 +398,7 @@ fn follow_next<D: Disk>(
     requires few { length cluster.old.state.cluster.seats ≤ 7 }
     requires count { length disks.old ≡ suc (length cluster.old.state.cluster.seats) }
     requires in_hand { D.tells → AllInHand D.state (around disks.old epochs.old stores.old) }
+    ensures same { SameStream cluster.old cluster.new }
     ensures advances { (start : ServedState) → Progress now Letters start cluster.old → Progress now Letters start cluster.new }
     ensures rest { result ≡ Turned.Rest → (next_job cluster.new.state.cluster ≡ None) × (next_letter cluster.new.state.cluster ≡ None) }
     ensures in_hand { D.tells → AllInHand D.state (around disks.new epochs.new stores.new) }
@@ -414,6 +422,7 @@ fn follow_all<D: Disk>(
     requires few { length cluster.old.state.cluster.seats ≤ 7 }
     requires count { length disks.old ≡ suc (length cluster.old.state.cluster.seats) }
     requires in_hand { D.tells → AllInHand D.state (around disks.old epochs.old stores.old) }
+    ensures same { SameStream cluster.old cluster.new }
     ensures advances { (start : ServedState) → Progress now Letters start cluster.old → Progress now Letters start cluster.new }
     ensures rest { result ≡ Settled.Did → (next_job cluster.new.state.cluster ≡ None) × (next_letter cluster.new.state.cluster ≡ None) }
     ensures in_hand { D.tells → AllInHand D.state (around disks.new epochs.new stores.new) }
@@ -431,6 +440,7 @@ fn follow_all<D: Disk>(
 /// With no job pending all that may have been lost is sent again, once.
 fn nudge(cluster: &mut Cluster, now: u64) -> Settled
     requires { next_job cluster.old.state.cluster ≡ None }
+    ensures same { SameStream cluster.old cluster.new }
     ensures did { result ≡ Settled.Did → (start : ServedState) → Progress now Jobs start cluster.old → Progress now Letters start cluster.new }
     ensures memory { result ≡ Settled.Memory → cluster.new ≡ cluster.old }
 {
@@ -441,6 +451,7 @@ fn nudge(cluster: &mut Cluster, now: u64) -> Settled
 fn forget(cluster: &mut Cluster, now: u64) -> Settled
     requires jobs { next_job cluster.old.state.cluster ≡ None }
     requires letters { next_letter cluster.old.state.cluster ≡ None }
+    ensures same { SameStream cluster.old cluster.new }
     ensures did { result ≡ Settled.Did → (start : ServedState) → Progress now Letters start cluster.old → Progress now Rest start cluster.new }
     ensures rest { result ≡ Settled.Did → IsAtRest cluster.new.state.cluster }
     ensures memory { result ≡ Settled.Memory → cluster.new ≡ cluster.old }
@@ -471,11 +482,10 @@ pub fn settle<D: Disk>(
     requires in_hand { D.tells → AllInHand D.state (around disks.old epochs.old stores.old) }
     ensures settles { result ≡ Settled.Did → Settles now cluster.old.state.cluster cluster.new.state.cluster }
     ensures rest { result ≡ Settled.Did → IsAtRest cluster.new.state.cluster }
+    ensures same { SameStream cluster.old cluster.new }
     ensures progress { (stage : Stage) × Progress now stage cluster.old cluster.new }
     ensures in_hand { D.tells → AllInHand D.state (around disks.new epochs.new stores.new) }
     ensures disks { DisksGo D.state cluster.old.number (around disks.old epochs.old stores.old) (around disks.new epochs.new stores.new) }
-    ensures sound { IsStream cluster.new.state.cluster }
-    ensures grows { GoesOn cluster.old.state.cluster.committed cluster.new.state.cluster.committed }
 {
     let Settled::Did = perform_all(cluster, disks, epochs, stores, now) else {
         return Settled::Memory;

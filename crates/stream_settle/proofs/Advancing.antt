@@ -1,0 +1,198 @@
+-- A settle comes from one stream to the next by its steps.
+use Rattle.std.proofs.Common.{◌≡◌, ◌≢◌, ℕ, zero, suc, ◌≤◌, List, [], ◌∷◌, ◌++◌, length, Option, Some, None, refl, sym, ap, ◌∙◌, subst}
+use Rattle.epoch_coordinator.specs.declared.message.Message.{Message}
+use Rattle.epoch_coordinator.specs.declared.message.Message.TheVariants as messages
+use Rattle.epoch_coordinator.specs.declared.message.Sent.{Sent}
+use Rattle.replication_laws.specs.Cluster.{ClusterState, letter_in, marked, send}
+use Rattle.replication_laws.specs.Events.{to_coordinator, comes, begins, performed, goes_down, nudges}
+use Rattle.replication_laws.proofs.Sounds.{count_put}
+use Rattle.settling_laws.specs.Settling.{Answer, Receipt, Fault, answered, Stage, Jobs, Letters, Rest, Turn, bare, turn, SettleStep, Perform, Nudge, Follow_up, Deliver, Forget, Settling, next_job, next_letter}
+use Rattle.settling_laws.proofs.Stepping.{none_yet, and_then}
+use Rattle.segment_store.specs.Receipts.{JobDone}
+use Rattle.cluster_core.specs.declared.outcome.Outcome.{Outcome}
+use Rattle.cluster_core.specs.declared.outcome.Outcome.TheVariants.{Did, Nothing}
+use Rattle.cluster_core.specs.States.{ReplicaState, reigned, deliver_by}
+use Rattle.cluster_core.specs.Kept.{delivered_by}
+use Rattle.stream_cluster.specs.declared.event.Event.TheVariants as events
+use Rattle.stream_cluster.specs.Happens.{EventGives}
+use Rattle.stream_cluster.specs.Served.{ServedState, Moves, members_of}
+use Rattle.stream_settle.specs.declared.turns.Settled.{Settled}
+use Rattle.stream_settle.specs.declared.turns.Settled.TheVariants as settled
+use Rattle.stream_settle.specs.Settles.{MovesBy, last_of, Moving, Progress, SameStream, IsUnderWay, Advances, IsAtRest}
+
+-- ---- reigns stand apart
+
+bare_to : (message : Message) (w : ClusterState) → bare (to_coordinator message (bare w)) ≡ bare (to_coordinator message w)
+bare_to (messages.Stopped epoch from tail) w = refl
+bare_to (messages.Stop epoch) w = refl
+bare_to (messages.Open epoch) w = refl
+bare_to (messages.Follow epoch leader) w = refl
+bare_to (messages.Shape epoch runs) w = refl
+bare_to (messages.Ask epoch from tail) w = refl
+bare_to (messages.Append epoch previous chunk) w = refl
+
+bare_comes : (now k : ℕ) (message : Message) (w : ClusterState) → bare (comes now k message (bare w)) ≡ bare (comes now k message w)
+bare_comes now zero message w = bare_to message w
+bare_comes now (suc i) message w = refl
+
+bare_begins : (j : Option ℕ) (w : ClusterState) → bare (begins j (bare w)) ≡ bare (begins j w)
+bare_begins None w = refl
+bare_begins (Some epoch) w = refl
+
+bare_performed : (k : ℕ) (w : ClusterState) → bare (performed k (bare w)) ≡ bare (performed k w)
+bare_performed zero w = bare_begins w.coordinator.job w
+bare_performed (suc i) w = refl
+
+bare_down : (k : ℕ) (w : ClusterState) → bare (goes_down k (bare w)) ≡ bare (goes_down k w)
+bare_down zero w = refl
+bare_down (suc i) w = refl
+
+bare_answered : (a : Answer) (k : ℕ) (w : ClusterState) → bare (answered a k (bare w)) ≡ bare (answered a k w)
+bare_answered Receipt k w = bare_performed k w
+bare_answered Fault k w = bare_down k w
+
+at_stage : Stage → ClusterState → Turn
+at_stage stage w = record { stage = stage; cluster = w }
+
+-- ---- members stay as many
+
+seats_to : (message : Message) (w : ClusterState) → length (to_coordinator message w).seats ≡ length w.seats
+seats_to (messages.Stopped epoch from tail) w = refl
+seats_to (messages.Stop epoch) w = refl
+seats_to (messages.Open epoch) w = refl
+seats_to (messages.Follow epoch leader) w = refl
+seats_to (messages.Shape epoch runs) w = refl
+seats_to (messages.Ask epoch from tail) w = refl
+seats_to (messages.Append epoch previous chunk) w = refl
+
+seats_comes : (now k : ℕ) (message : Message) (w : ClusterState) → length (comes now k message w).seats ≡ length w.seats
+seats_comes now zero message w = seats_to message w
+seats_comes now (suc i) message w = count_put (suc i) _ w.seats
+
+seats_begins : (j : Option ℕ) (w : ClusterState) → length (begins j w).seats ≡ length w.seats
+seats_begins None w = refl
+seats_begins (Some epoch) w = refl
+
+seats_answered : (a : Answer) (k : ℕ) (w : ClusterState) → length (answered a k w).seats ≡ length w.seats
+seats_answered Receipt zero w = seats_begins w.coordinator.job w
+seats_answered Receipt (suc i) w = count_put (suc i) _ w.seats
+seats_answered Fault zero w = refl
+seats_answered Fault (suc i) w = count_put (suc i) _ w.seats
+
+-- ---- steps
+
+step_job : (now : ℕ) (stage : Stage) (a : Answer) (k : ℕ) (w w' : ClusterState) → IsUnderWay stage → next_job w ≡ Some k → w' ≡ reigned [] (answered a k w) → SettleStep now (turn stage w) (turn stage w')
+step_job now Jobs a k w w' under due is = Perform k a refl due (ap (turn Jobs) is ∙ ap (at_stage Jobs) (sym (bare_answered a k w)))
+step_job now Letters a k w w' under due is = Follow_up k a refl due (ap (turn Letters) is ∙ ap (at_stage Letters) (sym (bare_answered a k w)))
+step_job now Rest a k w w' under due is = absurd under
+
+step_letter : (now number : ℕ) (o : Option Sent) (w w' : ClusterState) → next_job w ≡ None → next_letter w ≡ Some number → letter_in number w.mail ≡ o → deliver_by o w ≡ Did
+    → w' ≡ reigned [] (delivered_by o number now w) → SettleStep now (turn Letters w) (turn Letters w')
+step_letter now number None w w' none next at due is = absurd (cc due)
+step_letter now number (Some s) w w' none next at due is =
+    Deliver number s refl none next at (ap (turn Letters) is ∙ ap (at_stage Letters) (sym (bare_comes now s.to s.message (record w { mail = marked number w.mail }))))
+
+seats_letter : (now number : ℕ) (o : Option Sent) (w : ClusterState) → length (delivered_by o number now w).seats ≡ length w.seats
+seats_letter now number None w = refl
+seats_letter now number (Some s) w = seats_comes now s.to s.message (record w { mail = marked number w.mail })
+
+-- ---- moves, one behind the other
+
+moves_more : (s x y : ServedState) (states : List ServedState) → MovesBy s states → last_of s states ≡ x → Moves x y → MovesBy s (states ++ y ∷ [])
+moves_more s x y [] moves e step = (subst (λ (z : ServedState). Moves z y) (sym e) step, tt)
+moves_more s x y (z ∷ zs) moves e step = (moves.0, moves_more z x y zs moves.1 e step)
+
+last_more : (s y : ServedState) (states : List ServedState) → last_of s (states ++ y ∷ []) ≡ y
+last_more s y [] = refl
+last_more s y (z ∷ zs) = last_more z y zs
+
+moved_on : (start old new : ServedState) → Moving start old → Moves old new → Moving start new
+moved_on start old new m step = record { states = m.states ++ new ∷ []; moves = moves_more start old new m.states m.moves m.ends step; ends = last_more start new m.states }
+
+pub begins_here : (now : ℕ) (s : ServedState) → Progress now Jobs s s
+begins_here now s = record { steps = none_yet now (turn Jobs s.state.cluster); moving = record { states = []; moves = tt; ends = refl } }
+
+progress_on : (now : ℕ) (from to : Stage) (start old new : ServedState) → SettleStep now (turn from old.state.cluster) (turn to new.state.cluster) → Moves old new → Progress now from start old → Progress now to start new
+progress_on now from to start old new step moves p =
+    record { steps = and_then now (turn Jobs start.state.cluster) (turn from old.state.cluster) (turn to new.state.cluster) p.steps step; moving = moved_on start old new p.moving moves }
+
+stays : (now : ℕ) (stage : Stage) (start old new : ServedState) → new ≡ old → Progress now stage start old → Progress now stage start new
+stays now stage start old new e p = subst (λ (s : ServedState). Progress now stage start s) (sym e) p
+
+pub unmoved : (old new : ServedState) → new ≡ old → SameStream old new
+unmoved old new e = record { number = ap (λ (s : ServedState). s.number) e; seats = ap (λ (s : ServedState). length s.state.cluster.seats) e }
+
+pub same_then : (a b c : ServedState) → SameStream a b → SameStream b c → SameStream a c
+same_then a b c first second = record { number = second.number ∙ first.number; seats = second.seats ∙ first.seats }
+
+-- ---- what an event of a settle comes to
+
+-- either it happened, or nothing changed
+pub record TurnedBy (P : Type 0) (result : Settled) (old new : ServedState) : Type 0 where
+  pub did : result ≡ settled.Did → P
+  pub moved : result ≡ settled.Did → Moves old new
+  pub number : new.number ≡ old.number
+  pub memory : result ≡ settled.Memory → new ≡ old
+
+module _ (now k : ℕ) (a : Answer) (old new : ServedState) (due : next_job old.state.cluster ≡ Some k) where
+  answer_is : new.state.cluster ≡ reigned [] (answered a k old.state.cluster) → Moves old new → Advances now old new
+  answer_is is moves = λ stage start under p. progress_on now stage stage start old new (step_job now stage a k old.state.cluster new.state.cluster under due is) moves p
+
+  answer_same : new.state.cluster ≡ reigned [] (answered a k old.state.cluster) → new.number ≡ old.number → SameStream old new
+  answer_same is number = record { number = number; seats = ap (λ (w : ClusterState). length w.seats) is ∙ seats_answered a k old.state.cluster }
+
+cluster_is : (a : Answer) (k m : ℕ) (old new : ServedState) → m ≡ k → new.state.cluster ≡ reigned [] (answered a m old.state.cluster) → new.state.cluster ≡ reigned [] (answered a k old.state.cluster)
+cluster_is a k m old new e is = is ∙ ap (λ (n : ℕ). reigned [] (answered a n old.state.cluster)) e
+
+-- the receipt of the job of least number
+pub done_advances : (now k : ℕ) (r : JobDone) (result : Settled) (old new : ServedState) → r.member ≡ k → next_job old.state.cluster ≡ Some k
+    → TurnedBy (EventGives (events.Done r) now Did (members_of old) new.state) result old new → Advances now old new × SameStream old new
+done_advances now k r settled.Did old new of due t =
+    let is = cluster_is Receipt k r.member old new of (ap (λ (x : ReplicaState). x.cluster) (t.did refl).1) in
+    (answer_is now k Receipt old new due is (t.moved refl), answer_same now k Receipt old new due is t.number)
+done_advances now k r settled.Memory old new of due t = (λ stage start under p. stays now stage start old new (t.memory refl) p, unmoved old new (t.memory refl))
+
+-- the stop of who has the job of least number
+pub stop_advances : (now k : ℕ) (result : Settled) (old new : ServedState) → next_job old.state.cluster ≡ Some k
+    → TurnedBy (EventGives (events.Stop k) now Did (members_of old) new.state) result old new → Advances now old new × SameStream old new
+stop_advances now k settled.Did old new due t =
+    let is = ap (λ (x : ReplicaState). x.cluster) (t.did refl).1 in
+    (answer_is now k Fault old new due is (t.moved refl), answer_same now k Fault old new due is t.number)
+stop_advances now k settled.Memory old new due t = (λ stage start under p. stays now stage start old new (t.memory refl) p, unmoved old new (t.memory refl))
+
+-- nothing happened
+pub rests : (now : ℕ) (old new : ServedState) → new ≡ old → Advances now old new × SameStream old new
+rests now old new e = (λ stage start under p. stays now stage start old new e p, unmoved old new e)
+
+-- the message of least number
+pub letter_advances : (now number : ℕ) (result : Settled) (old new : ServedState) → next_job old.state.cluster ≡ None → next_letter old.state.cluster ≡ Some number
+    → TurnedBy (EventGives (events.Deliver number) now Did (members_of old) new.state) result old new
+    → ((start : ServedState) → Progress now Letters start old → Progress now Letters start new) × SameStream old new
+letter_advances now number settled.Did old new none next t =
+    let w = old.state.cluster in
+    let gives = t.did refl in
+    let is = ap (λ (x : ReplicaState). x.cluster) gives.1 in
+    (λ start p. progress_on now Letters Letters start old new (step_letter now number (letter_in number w.mail) w new.state.cluster none next refl gives.0 is) (t.moved refl) p,
+     record { number = t.number; seats = ap (λ (x : ClusterState). length x.seats) is ∙ seats_letter now number (letter_in number w.mail) w })
+letter_advances now number settled.Memory old new none next t = (λ start p. stays now Letters start old new (t.memory refl) p, unmoved old new (t.memory refl))
+
+-- one nudge
+pub nudge_advances : (now : ℕ) (result : Settled) (old new : ServedState) → next_job old.state.cluster ≡ None
+    → TurnedBy (EventGives events.Nudge now Did (members_of old) new.state) result old new
+    → (result ≡ settled.Did → (start : ServedState) → Progress now Jobs start old → Progress now Letters start new) × SameStream old new
+nudge_advances now settled.Did old new none t =
+    let is = ap (λ (x : ReplicaState). x.cluster) (t.did refl).1 in
+    (λ did start p. progress_on now Jobs Letters start old new (Nudge refl none (ap (turn Letters) is)) (t.moved refl) p,
+     record { number = t.number; seats = ap (λ (x : ClusterState). length x.seats) is })
+nudge_advances now settled.Memory old new none t = (λ did start p. absurd (cc did), unmoved old new (t.memory refl))
+
+-- and all is forgotten
+pub forget_advances : (now : ℕ) (result : Settled) (old new : ServedState) → next_job old.state.cluster ≡ None → next_letter old.state.cluster ≡ None
+    → TurnedBy (EventGives events.Forget now Did (members_of old) new.state) result old new
+    → (result ≡ settled.Did → (start : ServedState) → Progress now Letters start old → Progress now Rest start new) × (result ≡ settled.Did → IsAtRest new.state.cluster) × SameStream old new
+forget_advances now settled.Did old new none next t =
+    let is = ap (λ (x : ReplicaState). x.cluster) (t.did refl).1 in
+    (λ did start p. progress_on now Letters Rest start old new (Forget refl none next (ap (turn Rest) is)) (t.moved refl) p,
+     λ did. record { jobs = ap next_job is ∙ none; mail = ap (λ (x : ClusterState). x.mail) is; last = ap (λ (x : ClusterState). x.last) is },
+     record { number = t.number; seats = ap (λ (x : ClusterState). length x.seats) is })
+forget_advances now settled.Memory old new none next t = (λ did start p. absurd (cc did), λ did. absurd (cc did), unmoved old new (t.memory refl))
