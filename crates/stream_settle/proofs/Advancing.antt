@@ -1,5 +1,5 @@
 -- A settle comes from one stream to the next by its steps.
-use Rattle.std.proofs.Common.{◌≡◌, ◌≢◌, ℕ, zero, suc, ◌≤◌, List, [], ◌∷◌, ◌++◌, length, Option, Some, None, refl, sym, ap, ◌∙◌, subst}
+use Rattle.std.proofs.Common.{◌≡◌, ◌≢◌, ◌⊎◌, inl, inr, ℕ, zero, suc, ◌≤◌, List, [], ◌∷◌, ◌++◌, length, Option, Some, None, refl, sym, ap, ◌∙◌, subst}
 use Rattle.epoch_coordinator.specs.declared.message.Message.{Message}
 use Rattle.epoch_coordinator.specs.declared.message.Message.TheVariants as messages
 use Rattle.epoch_coordinator.specs.declared.message.Sent.{Sent}
@@ -11,14 +11,15 @@ use Rattle.settling_laws.proofs.Stepping.{none_yet, and_then}
 use Rattle.segment_store.specs.Receipts.{JobDone}
 use Rattle.cluster_core.specs.declared.outcome.Outcome.{Outcome}
 use Rattle.cluster_core.specs.declared.outcome.Outcome.TheVariants.{Did, Nothing}
-use Rattle.cluster_core.specs.States.{ReplicaState, reigned, deliver_by}
+use Rattle.cluster_core.specs.States.{ReplicaState, IfDid, reigned, deliver_by}
 use Rattle.cluster_core.specs.Kept.{delivered_by}
+use Rattle.stream_cluster.specs.declared.event.Event.{Event}
 use Rattle.stream_cluster.specs.declared.event.Event.TheVariants as events
 use Rattle.stream_cluster.specs.Happens.{EventGives}
 use Rattle.stream_cluster.specs.Served.{ServedState, Moves, members_of}
-use Rattle.stream_settle.specs.declared.turns.Settled.{Settled}
-use Rattle.stream_settle.specs.declared.turns.Settled.TheVariants as settled
-use Rattle.stream_settle.specs.Settles.{MovesBy, last_of, Moving, Progress, SameStream, IsUnderWay, Advances, IsAtRest}
+use Rattle.stream_settle.specs.declared.settled.Settled.{Settled}
+use Rattle.stream_settle.specs.declared.settled.Settled.TheVariants as settled
+use Rattle.stream_settle.specs.Settles.{MovesBy, last_of, Moving, Progress, SameStream, Leads, Advances, TurnedBy, IsAtRest}
 
 -- ---- reigns stand apart
 
@@ -81,6 +82,11 @@ seats_answered Fault (suc i) w = count_put (suc i) _ w.seats
 
 -- ---- steps
 
+abbrev IsUnderWay : Stage → Type 0
+IsUnderWay Jobs = Unit {0}
+IsUnderWay Letters = Unit {0}
+IsUnderWay Rest = ⊥
+
 step_job : (now : ℕ) (stage : Stage) (a : Answer) (k : ℕ) (w w' : ClusterState) → IsUnderWay stage → next_job w ≡ Some k → w' ≡ reigned [] (answered a k w) → SettleStep now (turn stage w) (turn stage w')
 step_job now Jobs a k w w' under due is = Perform k a refl due (ap (turn Jobs) is ∙ ap (at_stage Jobs) (sym (bare_answered a k w)))
 step_job now Letters a k w w' under due is = Follow_up k a refl due (ap (turn Letters) is ∙ ap (at_stage Letters) (sym (bare_answered a k w)))
@@ -127,72 +133,99 @@ same_then a b c first second = record { number = second.number ∙ first.number;
 
 -- ---- what an event of a settle comes to
 
--- either it happened, or nothing changed
-pub record TurnedBy (P : Type 0) (result : Settled) (old new : ServedState) : Type 0 where
-  pub did : result ≡ settled.Did → P
-  pub moved : result ≡ settled.Did → Moves old new
-  pub number : new.number ≡ old.number
-  pub memory : result ≡ settled.Memory → new ≡ old
+pub turned_by : (event : Event) (now : ℕ) (o : Outcome) (result : Settled) (old new : ServedState) → (result ≡ settled.Did → o ≡ Did) → (result ≡ settled.Memory → o ≢ Did)
+    → EventGives event now o (members_of old) new.state → IfDid o (Moves old new) → (o ≡ Did) ⊎ (new ≡ old) → new.number ≡ old.number
+    → TurnedBy (EventGives event now Did (members_of old) new.state) result old new
+turned_by event now o result old new did not gives moves same number = record {
+  did = λ e. subst (λ (x : Outcome). EventGives event now x (members_of old) new.state) (did e) gives;
+  moved = λ e. subst (λ (x : Outcome). IfDid x (Moves old new)) (did e) moves;
+  number = number;
+  memory = λ e. elim same [ inl d ↦ absurd (not e d) | inr s ↦ s ];
+}
 
-module _ (now k : ℕ) (a : Answer) (old new : ServedState) (due : next_job old.state.cluster ≡ Some k) where
-  answer_is : new.state.cluster ≡ reigned [] (answered a k old.state.cluster) → Moves old new → Advances now old new
-  answer_is is moves = λ stage start under p. progress_on now stage stage start old new (step_job now stage a k old.state.cluster new.state.cluster under due is) moves p
+pub leads_same : (now : ℕ) (stage : Stage) (old new : ServedState) → new ≡ old → Leads now stage stage old new
+leads_same now stage old new e = record { on = λ start p. stays now stage start old new e p }
 
-  answer_same : new.state.cluster ≡ reigned [] (answered a k old.state.cluster) → new.number ≡ old.number → SameStream old new
-  answer_same is number = record { number = number; seats = ap (λ (w : ClusterState). length w.seats) is ∙ seats_answered a k old.state.cluster }
+pub rests : (now : ℕ) (old new : ServedState) → new ≡ old → Advances now old new
+rests now old new e = record { before = leads_same now Jobs old new e; behind = leads_same now Letters old new e }
+
+answer_leads : (now : ℕ) (stage : Stage) (k : ℕ) (a : Answer) (old new : ServedState) → IsUnderWay stage → next_job old.state.cluster ≡ Some k → new.state.cluster ≡ reigned [] (answered a k old.state.cluster) → Moves old new → Leads now stage stage old new
+answer_leads now stage k a old new under due is moves = record { on = λ start p. progress_on now stage stage start old new (step_job now stage a k old.state.cluster new.state.cluster under due is) moves p }
+
+answer_is : (now k : ℕ) (a : Answer) (old new : ServedState) → next_job old.state.cluster ≡ Some k → new.state.cluster ≡ reigned [] (answered a k old.state.cluster) → Moves old new → Advances now old new
+answer_is now k a old new due is moves = record { before = answer_leads now Jobs k a old new tt due is moves; behind = answer_leads now Letters k a old new tt due is moves }
+
+answer_same : (k : ℕ) (a : Answer) (old new : ServedState) → new.state.cluster ≡ reigned [] (answered a k old.state.cluster) → new.number ≡ old.number → SameStream old new
+answer_same k a old new is number = record { number = number; seats = ap (λ (w : ClusterState). length w.seats) is ∙ seats_answered a k old.state.cluster }
 
 cluster_is : (a : Answer) (k m : ℕ) (old new : ServedState) → m ≡ k → new.state.cluster ≡ reigned [] (answered a m old.state.cluster) → new.state.cluster ≡ reigned [] (answered a k old.state.cluster)
 cluster_is a k m old new e is = is ∙ ap (λ (n : ℕ). reigned [] (answered a n old.state.cluster)) e
 
 -- the receipt of the job of least number
-pub done_advances : (now k : ℕ) (r : JobDone) (result : Settled) (old new : ServedState) → r.member ≡ k → next_job old.state.cluster ≡ Some k
-    → TurnedBy (EventGives (events.Done r) now Did (members_of old) new.state) result old new → Advances now old new × SameStream old new
-done_advances now k r settled.Did old new of due t =
-    let is = cluster_is Receipt k r.member old new of (ap (λ (x : ReplicaState). x.cluster) (t.did refl).1) in
-    (answer_is now k Receipt old new due is (t.moved refl), answer_same now k Receipt old new due is t.number)
-done_advances now k r settled.Memory old new of due t = (λ stage start under p. stays now stage start old new (t.memory refl) p, unmoved old new (t.memory refl))
+pub done_advances : (now k : ℕ) (r : JobDone) (result : Settled) (old new : ServedState) → r.member ≡ k → next_job old.state.cluster ≡ Some k → TurnedBy (EventGives (events.Done r) now Did (members_of old) new.state) result old new → Advances now old new
+done_advances now k r settled.Did old new of due t = answer_is now k Receipt old new due (cluster_is Receipt k r.member old new of (ap (λ (x : ReplicaState). x.cluster) (t.did refl).1)) (t.moved refl)
+done_advances now k r settled.Memory old new of due t = rests now old new (t.memory refl)
+
+pub done_same : (now : ℕ) (r : JobDone) (result : Settled) (old new : ServedState) → TurnedBy (EventGives (events.Done r) now Did (members_of old) new.state) result old new → SameStream old new
+done_same now r settled.Did old new t = answer_same r.member Receipt old new (ap (λ (x : ReplicaState). x.cluster) (t.did refl).1) t.number
+done_same now r settled.Memory old new t = unmoved old new (t.memory refl)
 
 -- the stop of who has the job of least number
-pub stop_advances : (now k : ℕ) (result : Settled) (old new : ServedState) → next_job old.state.cluster ≡ Some k
-    → TurnedBy (EventGives (events.Stop k) now Did (members_of old) new.state) result old new → Advances now old new × SameStream old new
-stop_advances now k settled.Did old new due t =
-    let is = ap (λ (x : ReplicaState). x.cluster) (t.did refl).1 in
-    (answer_is now k Fault old new due is (t.moved refl), answer_same now k Fault old new due is t.number)
-stop_advances now k settled.Memory old new due t = (λ stage start under p. stays now stage start old new (t.memory refl) p, unmoved old new (t.memory refl))
+pub stop_advances : (now k : ℕ) (result : Settled) (old new : ServedState) → next_job old.state.cluster ≡ Some k → TurnedBy (EventGives (events.Stop k) now Did (members_of old) new.state) result old new → Advances now old new
+stop_advances now k settled.Did old new due t = answer_is now k Fault old new due (ap (λ (x : ReplicaState). x.cluster) (t.did refl).1) (t.moved refl)
+stop_advances now k settled.Memory old new due t = rests now old new (t.memory refl)
 
--- nothing happened
-pub rests : (now : ℕ) (old new : ServedState) → new ≡ old → Advances now old new × SameStream old new
-rests now old new e = (λ stage start under p. stays now stage start old new e p, unmoved old new e)
+pub stop_same : (now k : ℕ) (result : Settled) (old new : ServedState) → TurnedBy (EventGives (events.Stop k) now Did (members_of old) new.state) result old new → SameStream old new
+stop_same now k settled.Did old new t = answer_same k Fault old new (ap (λ (x : ReplicaState). x.cluster) (t.did refl).1) t.number
+stop_same now k settled.Memory old new t = unmoved old new (t.memory refl)
 
 -- the message of least number
-pub letter_advances : (now number : ℕ) (result : Settled) (old new : ServedState) → next_job old.state.cluster ≡ None → next_letter old.state.cluster ≡ Some number
-    → TurnedBy (EventGives (events.Deliver number) now Did (members_of old) new.state) result old new
-    → ((start : ServedState) → Progress now Letters start old → Progress now Letters start new) × SameStream old new
-letter_advances now number settled.Did old new none next t =
+pub letter_leads : (now number : ℕ) (result : Settled) (old new : ServedState) → next_job old.state.cluster ≡ None → next_letter old.state.cluster ≡ Some number
+    → TurnedBy (EventGives (events.Deliver number) now Did (members_of old) new.state) result old new → Leads now Letters Letters old new
+letter_leads now number settled.Did old new none next t =
     let w = old.state.cluster in
     let gives = t.did refl in
-    let is = ap (λ (x : ReplicaState). x.cluster) gives.1 in
-    (λ start p. progress_on now Letters Letters start old new (step_letter now number (letter_in number w.mail) w new.state.cluster none next refl gives.0 is) (t.moved refl) p,
-     record { number = t.number; seats = ap (λ (x : ClusterState). length x.seats) is ∙ seats_letter now number (letter_in number w.mail) w })
-letter_advances now number settled.Memory old new none next t = (λ start p. stays now Letters start old new (t.memory refl) p, unmoved old new (t.memory refl))
+    record { on = λ start p. progress_on now Letters Letters start old new (step_letter now number (letter_in number w.mail) w new.state.cluster none next refl gives.0 (ap (λ (x : ReplicaState). x.cluster) gives.1)) (t.moved refl) p }
+letter_leads now number settled.Memory old new none next t = leads_same now Letters old new (t.memory refl)
+
+pub letter_same : (now number : ℕ) (result : Settled) (old new : ServedState) → TurnedBy (EventGives (events.Deliver number) now Did (members_of old) new.state) result old new → SameStream old new
+letter_same now number settled.Did old new t =
+    let w = old.state.cluster in
+    record { number = t.number; seats = ap (λ (x : ReplicaState). length x.cluster.seats) (t.did refl).1 ∙ seats_letter now number (letter_in number w.mail) w }
+letter_same now number settled.Memory old new t = unmoved old new (t.memory refl)
 
 -- one nudge
-pub nudge_advances : (now : ℕ) (result : Settled) (old new : ServedState) → next_job old.state.cluster ≡ None
-    → TurnedBy (EventGives events.Nudge now Did (members_of old) new.state) result old new
-    → (result ≡ settled.Did → (start : ServedState) → Progress now Jobs start old → Progress now Letters start new) × SameStream old new
-nudge_advances now settled.Did old new none t =
-    let is = ap (λ (x : ReplicaState). x.cluster) (t.did refl).1 in
-    (λ did start p. progress_on now Jobs Letters start old new (Nudge refl none (ap (turn Letters) is)) (t.moved refl) p,
-     record { number = t.number; seats = ap (λ (x : ClusterState). length x.seats) is })
-nudge_advances now settled.Memory old new none t = (λ did start p. absurd (cc did), unmoved old new (t.memory refl))
+pub nudge_leads : (now : ℕ) (result : Settled) (old new : ServedState) → next_job old.state.cluster ≡ None → TurnedBy (EventGives events.Nudge now Did (members_of old) new.state) result old new
+    → result ≡ settled.Did → Leads now Jobs Letters old new
+nudge_leads now result old new none t did = record { on = λ start p. progress_on now Jobs Letters start old new (Nudge refl none (ap (turn Letters) (ap (λ (x : ReplicaState). x.cluster) (t.did did).1))) (t.moved did) p }
+
+pub nudge_same : (now : ℕ) (result : Settled) (old new : ServedState) → TurnedBy (EventGives events.Nudge now Did (members_of old) new.state) result old new → SameStream old new
+nudge_same now settled.Did old new t = record { number = t.number; seats = ap (λ (x : ReplicaState). length x.cluster.seats) (t.did refl).1 }
+nudge_same now settled.Memory old new t = unmoved old new (t.memory refl)
 
 -- and all is forgotten
-pub forget_advances : (now : ℕ) (result : Settled) (old new : ServedState) → next_job old.state.cluster ≡ None → next_letter old.state.cluster ≡ None
-    → TurnedBy (EventGives events.Forget now Did (members_of old) new.state) result old new
-    → (result ≡ settled.Did → (start : ServedState) → Progress now Letters start old → Progress now Rest start new) × (result ≡ settled.Did → IsAtRest new.state.cluster) × SameStream old new
-forget_advances now settled.Did old new none next t =
-    let is = ap (λ (x : ReplicaState). x.cluster) (t.did refl).1 in
-    (λ did start p. progress_on now Letters Rest start old new (Forget refl none next (ap (turn Rest) is)) (t.moved refl) p,
-     λ did. record { jobs = ap next_job is ∙ none; mail = ap (λ (x : ClusterState). x.mail) is; last = ap (λ (x : ClusterState). x.last) is },
-     record { number = t.number; seats = ap (λ (x : ClusterState). length x.seats) is })
-forget_advances now settled.Memory old new none next t = (λ did start p. absurd (cc did), λ did. absurd (cc did), unmoved old new (t.memory refl))
+pub forget_leads : (now : ℕ) (result : Settled) (old new : ServedState) → next_job old.state.cluster ≡ None → next_letter old.state.cluster ≡ None → TurnedBy (EventGives events.Forget now Did (members_of old) new.state) result old new
+    → result ≡ settled.Did → Leads now Letters Rest old new
+forget_leads now result old new none next t did = record { on = λ start p. progress_on now Letters Rest start old new (Forget refl none next (ap (turn Rest) (ap (λ (x : ReplicaState). x.cluster) (t.did did).1))) (t.moved did) p }
+
+pub forget_rests : (now : ℕ) (result : Settled) (old new : ServedState) → next_job old.state.cluster ≡ None → TurnedBy (EventGives events.Forget now Did (members_of old) new.state) result old new
+    → result ≡ settled.Did → IsAtRest new.state.cluster
+forget_rests now result old new none t did =
+    let is = ap (λ (x : ReplicaState). x.cluster) (t.did did).1 in
+    record { jobs = ap next_job is ∙ none; mail = ap (λ (x : ClusterState). x.mail) is; last = ap (λ (x : ClusterState). x.last) is }
+
+pub forget_same : (now : ℕ) (result : Settled) (old new : ServedState) → TurnedBy (EventGives events.Forget now Did (members_of old) new.state) result old new → SameStream old new
+forget_same now settled.Did old new t = record { number = t.number; seats = ap (λ (x : ReplicaState). length x.cluster.seats) (t.did refl).1 }
+forget_same now settled.Memory old new t = unmoved old new (t.memory refl)
+
+-- ---- one behind the other
+
+pub leads_then : (now : ℕ) (from by to : Stage) (a b c : ServedState) → Leads now from by a b → Leads now by to b c → Leads now from to a c
+leads_then now from by to a b c first second = record { on = λ start p. second.on start (first.on start p) }
+
+pub advances_then : (now : ℕ) (a b c : ServedState) → Advances now a b → Advances now b c → Advances now a c
+advances_then now a b c first second = record { before = leads_then now Jobs Jobs Jobs a b c first.before second.before; behind = leads_then now Letters Letters Letters a b c first.behind second.behind }
+
+-- a settle so far
+pub came : (now : ℕ) (to : Stage) (a b : ServedState) → Leads now Jobs to a b → Progress now to a b
+came now to a b leads = leads.on a (begins_here now a)

@@ -41,7 +41,6 @@ besides_same : (one two : _) (s : DiskState) → Besides one two s s
 besides_same one two s = record { seen = λ f a b. refl; images = λ f a b c left. left }
 
 module _ {D : Type 0} (state : D → DiskState) where
-
   -- nothing changes
   pub go_none : (stream : ℕ) (a : Around D) → DisksGo state stream a a
   go_none stream a = record {
@@ -60,16 +59,15 @@ module _ {D : Type 0} (state : D → DiskState) where
         count = second.count ∙ first.count;
         id = second.id ∙ first.id;
         epochs = λ d f is at. let there = is.there in let m = the_disk b.disks 0 d (omega (arith, there, n)) in
-          besides_then a.epochs.id (second_file a.epochs.id) (state d) (state (slice_index_or b.disks 0 d)) (state f) (first.epochs d (slice_index_or b.disks 0 d) is m)
+            besides_then a.epochs.id (second_file a.epochs.id) (state d) (state (slice_index_or b.disks 0 d)) (state f) (first.epochs d (slice_index_or b.disks 0 d) is m)
             (subst (λ (id : _). Besides id (second_file id) (state (slice_index_or b.disks 0 d)) (state f)) first.id (second.epochs (slice_index_or b.disks 0 d) f m at));
         members = λ i d f is at. let there = is.there in let m = the_disk b.disks (suc i) d (omega (arith, there, n)) in
-          streams_then stream (state d) (state (slice_index_or b.disks (suc i) d)) (state f) (first.members i d (slice_index_or b.disks (suc i) d) is m) (second.members i (slice_index_or b.disks (suc i) d) f m at);
+            streams_then stream (state d) (state (slice_index_or b.disks (suc i) d)) (state f) (first.members i d (slice_index_or b.disks (suc i) d) is m) (second.members i (slice_index_or b.disks (suc i) d) f m at);
         faults = λ k d f is at. let there = is.there in let m = the_disk b.disks k d (omega (arith, there, n)) in
-          let one = first.faults k d (slice_index_or b.disks k d) is m in let two = second.faults k (slice_index_or b.disks k d) f m at in omega (arith, one, two);
+            let one = first.faults k d (slice_index_or b.disks k d) is m in let two = second.faults k (slice_index_or b.disks k d) f m at in omega (arith, one, two);
       }
 
   module _ (stream : ℕ) (disks : List D) (d e : D) (ep ep' : InHand) (sh sh' : List (Option Shelf)) (later : (state d).faults ≤ (state e).faults) where
-
     -- the coordinator's
     pub epoch_goes : 0 < length disks → d ≡ slice_index_or disks 0 d → ep'.id ≡ ep.id → Besides ep.id (second_file ep.id) (state d) (state e)
         → DisksGo state stream (around disks ep sh) (around (slice_set disks 0 e) ep' sh)
@@ -77,12 +75,13 @@ module _ {D : Type 0} (state : D → DiskState) where
       count = length-set disks 0 e;
       id = id;
       epochs = λ x y is was. subst (λ (z : D). Besides ep.id (second_file ep.id) (state x) (state z)) (sym (changed disks 0 e y was))
-        (subst (λ (z : D). Besides ep.id (second_file ep.id) (state z) (state e)) (one_disk disks 0 d x (record { there = lt; is = at }) is) others);
+          (subst (λ (z : D). Besides ep.id (second_file ep.id) (state z) (state e)) (one_disk disks 0 d x (record { there = lt; is = at }) is) others);
       members = λ i x y is was. subst (λ (z : D). OtherStreams stream (state x) (state z)) (one_disk disks (suc i) x y is (unchanged disks 0 (suc i) e y (λ b. cc b) was)) (streams_same stream (state x));
       faults = λ k x y is was. elim (same_or_not k 0) [
-          inl z ↦ subst (λ (v : D). (state x).faults ≤ (state v).faults) (sym (changed disks 0 e y (subst (λ (j : ℕ). IsDisk (slice_set disks 0 e) j y) z was)))
+        | inl z ↦ subst (λ (v : D). (state x).faults ≤ (state v).faults) (sym (changed disks 0 e y (subst (λ (j : ℕ). IsDisk (slice_set disks 0 e) j y) z was)))
             (subst (λ (v : D). (state v).faults ≤ (state e).faults) (one_disk disks 0 d x (record { there = lt; is = at }) (subst (λ (j : ℕ). IsDisk disks j x) z is)) later)
-        | inr n ↦ subst (λ (v : D). (state x).faults ≤ (state v).faults) (one_disk disks k x y is (unchanged disks 0 k e y n was)) (omega arith) ];
+        | inr n ↦ subst (λ (v : D). (state x).faults ≤ (state v).faults) (one_disk disks k x y is (unchanged disks 0 k e y n was)) (omega arith)
+      ];
     }
 
     pub epoch_in_hand : Backs ep' (state e) → AllInHand state (around disks ep sh) → AllInHand state (around (slice_set disks 0 e) ep' sh)
@@ -99,13 +98,15 @@ module _ {D : Type 0} (state : D → DiskState) where
       id = refl;
       epochs = λ x y is was. subst (λ (z : D). Besides ep.id (second_file ep.id) (state x) (state z)) (one_disk disks 0 x y is (unchanged disks k 0 e y (λ b. not_zero k some b) was)) (besides_same ep.id (second_file ep.id) (state x));
       members = λ i x y is was. elim (same_or_not (suc i) k) [
-          inl z ↦ subst (λ (v : D). OtherStreams stream (state x) (state v)) (sym (changed disks k e y (subst (λ (j : ℕ). IsDisk (slice_set disks k e) j y) z was)))
+        | inl z ↦ subst (λ (v : D). OtherStreams stream (state x) (state v)) (sym (changed disks k e y (subst (λ (j : ℕ). IsDisk (slice_set disks k e) j y) z was)))
             (subst (λ (v : D). OtherStreams stream (state v) (state e)) (one_disk disks k d x (record { there = lt; is = at }) (subst (λ (j : ℕ). IsDisk disks j x) z is)) others)
-        | inr n ↦ subst (λ (v : D). OtherStreams stream (state x) (state v)) (one_disk disks (suc i) x y is (unchanged disks k (suc i) e y n was)) (streams_same stream (state x)) ];
+        | inr n ↦ subst (λ (v : D). OtherStreams stream (state x) (state v)) (one_disk disks (suc i) x y is (unchanged disks k (suc i) e y n was)) (streams_same stream (state x))
+      ];
       faults = λ j x y is was. elim (same_or_not j k) [
-          inl z ↦ subst (λ (v : D). (state x).faults ≤ (state v).faults) (sym (changed disks k e y (subst (λ (m : ℕ). IsDisk (slice_set disks k e) m y) z was)))
+        | inl z ↦ subst (λ (v : D). (state x).faults ≤ (state v).faults) (sym (changed disks k e y (subst (λ (m : ℕ). IsDisk (slice_set disks k e) m y) z was)))
             (subst (λ (v : D). (state v).faults ≤ (state e).faults) (one_disk disks k d x (record { there = lt; is = at }) (subst (λ (m : ℕ). IsDisk disks m x) z is)) later)
-        | inr n ↦ subst (λ (v : D). (state x).faults ≤ (state v).faults) (one_disk disks j x y is (unchanged disks k j e y n was)) (omega arith) ];
+        | inr n ↦ subst (λ (v : D). (state x).faults ≤ (state v).faults) (one_disk disks j x y is (unchanged disks k j e y n was)) (omega arith)
+      ];
     }
       where
         not_zero : (k : ℕ) → 0 < k → 0 ≡ k → ⊥
@@ -115,8 +116,9 @@ module _ {D : Type 0} (state : D → DiskState) where
     member_in_hand k some backed others all = record {
       epochs = λ x was. all.epochs x (unchanged disks k 0 e x (λ b. not_zero k some b) was);
       shelves = λ i x was. elim (same_or_not (suc i) k) [
-          inl z ↦ subst (λ (v : D). BackedShelf (shelf_of (suc i) sh') (state v)) (sym (changed disks k e x (subst (λ (j : ℕ). IsDisk (slice_set disks k e) j x) z was))) (subst (λ (j : ℕ). BackedShelf (shelf_of j sh') (state e)) (sym z) backed)
-        | inr n ↦ subst (λ (v : Option Shelf). BackedShelf v (state x)) (sym (others (suc i) n)) (all.shelves i x (unchanged disks k (suc i) e x n was)) ];
+        | inl z ↦ subst (λ (v : D). BackedShelf (shelf_of (suc i) sh') (state v)) (sym (changed disks k e x (subst (λ (j : ℕ). IsDisk (slice_set disks k e) j x) z was))) (subst (λ (j : ℕ). BackedShelf (shelf_of j sh') (state e)) (sym z) backed)
+        | inr n ↦ subst (λ (v : Option Shelf). BackedShelf v (state x)) (sym (others (suc i) n)) (all.shelves i x (unchanged disks k (suc i) e x n was))
+      ];
     }
       where
         not_zero : (k : ℕ) → 0 < k → 0 ≡ k → ⊥

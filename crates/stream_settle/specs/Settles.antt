@@ -13,6 +13,8 @@ use Rattle.member_stores.specs.declared.fault.WorkFault.TheVariants.{NoStore, Ap
 use Rattle.member_stores.specs.declared.shelf.Shelf.{Shelf}
 use Rattle.member_stores.specs.Shelves.{shelf_of, BackedShelf}
 use Rattle.stream_cluster.specs.Served.{ServedState, Moves}
+use Rattle.stream_settle.specs.declared.settled.Settled.{Settled}
+use Rattle.stream_settle.specs.declared.settled.Settled.TheVariants as settled
 
 -- ---- the stream
 
@@ -40,15 +42,21 @@ pub record SameStream (old new : ServedState) : Type 0 where
   pub number : new.number ≡ old.number
   pub seats : length new.state.cluster.seats ≡ length old.state.cluster.seats
 
--- jobs may be performed
-abbrev pub IsUnderWay : Stage → Type 0
-IsUnderWay Jobs = Unit {0}
-IsUnderWay Letters = Unit {0}
-IsUnderWay Rest = ⊥
+-- whatever came before, the settle comes from one to the other by steps, and from one stage to another
+pub record Leads (now : ℕ) (from to : Stage) (old new : ServedState) : Type 0 where
+  pub on : (start : ServedState) → Progress now from start old → Progress now to start new
 
--- whatever came before, also before the nudge, the settle comes from one to the other by steps
-abbrev pub Advances : ℕ → ServedState → ServedState → Type 0
-Advances now old new = (stage : Stage) (start : ServedState) → IsUnderWay stage → Progress now stage start old → Progress now stage start new
+-- before the nudge and behind it
+pub record Advances (now : ℕ) (old new : ServedState) : Type 0 where
+  pub before : Leads now Jobs Jobs old new
+  pub behind : Leads now Letters Letters old new
+
+-- an event happened, or nothing changed
+pub record TurnedBy (P : Type 0) (result : Settled) (old new : ServedState) : Type 0 where
+  pub did : result ≡ settled.Did → P
+  pub moved : result ≡ settled.Did → Moves old new
+  pub number : new.number ≡ old.number
+  pub memory : result ≡ settled.Memory → new ≡ old
 
 -- no job is pending and no message is there, and numbering begins at 1
 pub record IsAtRest (w : ClusterState) : Type 0 where
@@ -83,6 +91,19 @@ pub record DisksGo {D : Type 0} (state : D → DiskState) (stream : ℕ) (old ne
   pub epochs : (d e : D) → IsDisk old.disks 0 d → IsDisk new.disks 0 e → Besides old.epochs.id (second_file old.epochs.id) (state d) (state e)
   pub members : (i : ℕ) (d e : D) → IsDisk old.disks (suc i) d → IsDisk new.disks (suc i) e → OtherStreams stream (state d) (state e)
   pub faults : (k : ℕ) (d e : D) → IsDisk old.disks k d → IsDisk new.disks k e → (state d).faults ≤ (state e).faults
+
+-- a stream of at most 7 members over one disk more than members
+pub record Ready {D : Type 0} (tells : Type 0) (state : D → DiskState) (s : ServedState) (a : Around D) : Type 0 where
+  pub few : length s.state.cluster.seats ≤ 7
+  pub count : length a.disks ≡ suc (length s.state.cluster.seats)
+  pub in_hand : tells → AllInHand state a
+
+-- a part of a settle
+pub record Goes {D : Type 0} (tells : Type 0) (state : D → DiskState) (Way : ServedState → ServedState → Type 0) (old new : ServedState) (a b : Around D) : Type 0 where
+  pub way : Way old new
+  pub same : SameStream old new
+  pub disks : DisksGo state old.number a b
+  pub in_hand : tells → AllInHand state b
 
 -- ---- faults
 
