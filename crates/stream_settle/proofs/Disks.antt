@@ -9,7 +9,9 @@ use Rattle.gated_words.specs.Files.{second_file}
 use Rattle.gated_words.specs.Backing.{Backs}
 use Rattle.member_stores.specs.declared.shelf.Shelf.{Shelf}
 use Rattle.member_stores.specs.Shelves.{shelf_of, BackedShelf, OthersStay}
-use Rattle.stream_settle.specs.Settles.{Around, around, IsDisk, AllInHand, DisksGo}
+use Rattle.stream_cluster.specs.Served.{ServedState}
+use Rattle.stream_settle.specs.Settles.{Around, around, IsDisk, AllInHand, DisksGo, SameStream, Ready, Goes}
+use Rattle.stream_settle.proofs.Advancing.{same_then}
 
 same_or_not : (a b : ℕ) → (a ≡ b) ⊎ (a ≢ b)
 same_or_not zero zero = inl refl
@@ -123,3 +125,34 @@ module _ {D : Type 0} (state : D → DiskState) where
       where
         not_zero : (k : ℕ) → 0 < k → 0 ≡ k → ⊥
         not_zero k lt e = omega (arith, lt, e)
+
+module _ {D : Type 0} (tells : Type 0) (state : D → DiskState) (Way : ServedState → ServedState → Type 0) where
+  -- nothing was done
+  pub goes_none : (s t : ServedState) (a : Around D) → Way s t → SameStream s t → (tells → AllInHand state a) → Goes tells state Way s t a a
+  goes_none s t a way same in_hand = record { way = way; same = same; disks = go_none state s.number a; in_hand = in_hand }
+
+  -- one part behind another
+  pub goes_then : ((p q r : ServedState) → Way p q → Way q r → Way p r) → (p q r : ServedState) (a b c : Around D) → Goes tells state Way p q a b → Goes tells state Way q r b c → Goes tells state Way p r a c
+  goes_then join p q r a b c first second = record {
+    way = join p q r first.way second.way;
+    same = same_then p q r first.same second.same;
+    disks = go_then state p.number a b c first.disks (subst (λ (n : ℕ). DisksGo state n b c) first.same.number second.disks);
+    in_hand = second.in_hand;
+  }
+
+  -- a part more may follow
+  pub ready_then : (s t : ServedState) (a b : Around D) → Ready tells state s a → Goes tells state Way s t a b → Ready tells state t b
+  ready_then s t a b ready goes = record {
+    few = let few = ready.few in let seats = goes.same.seats in omega (arith, few, seats);
+    count = goes.disks.count ∙ ready.count ∙ ap suc (sym goes.same.seats);
+    in_hand = goes.in_hand;
+  }
+
+-- another way of the same part
+pub goes_as : {D : Type 0} (tells : Type 0) (state : D → DiskState) (Way Other : ServedState → ServedState → Type 0) (s t : ServedState) (a b : Around D) → (Way s t → Other s t) → Goes tells state Way s t a b → Goes tells state Other s t a b
+goes_as tells state Way Other s t a b as_is goes = record { way = as_is goes.way; same = goes.same; disks = goes.disks; in_hand = goes.in_hand }
+
+-- a part over no disk behind one
+pub goes_on : {D : Type 0} (tells : Type 0) (state : D → DiskState) (Way : ServedState → ServedState → Type 0) → ((p q r : ServedState) → Way p q → Way q r → Way p r)
+    → (s t u : ServedState) (a b : Around D) → Goes tells state Way s t a b → Way t u → SameStream t u → Goes tells state Way s u a b
+goes_on tells state Way join s t u a b goes way same = record { way = join s t u goes.way way; same = same_then s t u goes.same same; disks = goes.disks; in_hand = goes.in_hand }
