@@ -144,7 +144,6 @@ module _ {D : Type 0} (tells : Type 0) (state : D → DiskState) (Way : ServedSt
   pub ready_then : (s t : ServedState) (a b : Around D) → Ready tells state s a → Goes tells state Way s t a b → Ready tells state t b
   ready_then s t a b ready goes = record {
     few = let few = ready.few in let seats = goes.same.seats in omega (arith, few, seats);
-    count = goes.disks.count ∙ ready.count ∙ ap suc (sym goes.same.seats);
     in_hand = goes.in_hand;
   }
 

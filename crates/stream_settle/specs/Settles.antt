@@ -92,10 +92,9 @@ pub record DisksGo {D : Type 0} (state : D → DiskState) (stream : ℕ) (old ne
   pub members : (i : ℕ) (d e : D) → IsDisk old.disks (suc i) d → IsDisk new.disks (suc i) e → OtherStreams stream (state d) (state e)
   pub faults : (k : ℕ) (d e : D) → IsDisk old.disks k d → IsDisk new.disks k e → (state d).faults ≤ (state e).faults
 
--- a stream of at most 7 members over one disk more than members
+-- a stream of at most 7 members, and its disks are what is in hand of them
 pub record Ready {D : Type 0} (tells : Type 0) (state : D → DiskState) (s : ServedState) (a : Around D) : Type 0 where
   pub few : length s.state.cluster.seats ≤ 7
-  pub count : length a.disks ≡ suc (length s.state.cluster.seats)
   pub in_hand : tells → AllInHand state a
 
 -- a part of a settle

@@ -199,7 +199,7 @@ fn answer_member<D: Disk>(
     }
 }
 
-/// The job of the coordinator, number 0, or of a member is performed, or who has it goes down.
+/// The job of the coordinator, number 0, or of a member is performed, or who has it goes down, as one without a disk does.
 fn answer<D: Disk>(
     cluster: &mut Cluster,
     disks: &mut [D],
@@ -212,10 +212,14 @@ fn answer<D: Disk>(
     requires due { next_job cluster.old.state.cluster ≡ Some member }
     ensures { Goes D.tells D.state (Advances now) cluster.old cluster.new (around disks.old epochs.old stores.old) (around disks.new epochs.new stores.new) }
 {
-    if member == 0 {
-        return answer_epoch(cluster, &mut disks[0], epochs, now);
+    let place = member as usize;
+    if place >= disks.len() {
+        return fail(cluster, member, now);
     }
-    answer_member(cluster, &mut disks[member as usize], stores, member, now)
+    if member == 0 {
+        return answer_epoch(cluster, &mut disks[place], epochs, now);
+    }
+    answer_member(cluster, &mut disks[place], stores, member, now)
 }
 
 /// The pending job of least number is performed, or who has it goes down.

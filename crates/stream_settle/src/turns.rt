@@ -115,7 +115,7 @@ fn forget(cluster: &mut Cluster, now: u64) -> Settled
 /// least number, until none is; then all that may have been lost is sent again; then messages are delivered by their
 /// numbers, and jobs that arise performed at once, until none is left. Then all messages are forgotten. Disk 0 is that
 /// of the coordinator, disk M that of member M. A job that is answered with a fault stops its member, whose store goes,
-/// or the coordinator; so does one for which no store is there, or another's. Messages to those that are down are passed
+/// or the coordinator; so does one for which no store or no disk is there, or another's store. Messages to those that are down are passed
 /// over.
 ///
 /// After `Did` no job is pending and no message is there. After `Memory` what was done so far has happened; where a
