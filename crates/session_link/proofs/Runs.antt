@@ -54,14 +54,11 @@ turns_more m old mid new (s ∷ more) turns one = (turns.0, turns_more m s mid n
 pub no_turn : {S : Type 0} (m : HubMeaning S) (start : Served S) → m.seen.later start.hub start.hub → Serves m start ends.Memory start
 no_turn m start same = record { each = []; last = start; turns = refl; ends = NoRoom refl (record { later = same; none_sent = refl }) }
 
+-- what stands after the end is told
+pub leaves_as : {S : Type 0} (m : HubMeaning S) (s s1 : SessionState) (h hub : S) → s1 ≡ link_ended ends.PeerEnded s → Runs m (link_ended_row s.tables) h (silent s1.tables) hub → Runs m (link_ended_row s.tables) h (silent (link_ended ends.PeerEnded s).tables) hub
+leaves_as m s s1 h hub new leaves = subst (λ (x : SessionState). Runs m (link_ended_row s.tables) h (silent x.tables) hub) new leaves
+
 -- the consumers of the session leave at the end
-pub runs_to : {S : Type 0} (m : HubMeaning S) (start : Served S) (how : SessionEnd) (s s1 : SessionState) (h hub : S) (heard : Option (List Hearing)) (sent moments : Option (List ℕ))
-    → Serves m start how (served s h heard sent moments) → s1 ≡ link_ended ends.PeerEnded s → Runs m (link_ended_row s.tables) h (silent s1.tables) hub → RunsTo m start how hub heard sent moments
-runs_to m start how s s1 h hub heard sent moments serves new leaves = record {
-  ended = served s h heard sent moments;
-  serves = serves;
-  leaves = subst (λ (x : SessionState). Runs m (link_ended_row s.tables) h (silent x.tables) hub) new leaves;
-  heard_is = refl;
-  sent_is = refl;
-  moments_is = refl;
-}
+pub runs_to : {S : Type 0} (m : HubMeaning S) (start : Served S) (how : SessionEnd) (s : SessionState) (h hub : S) (heard : Option (List Hearing)) (sent moments : Option (List ℕ))
+    → Serves m start how (served s h heard sent moments) → Runs m (link_ended_row s.tables) h (silent (link_ended ends.PeerEnded s).tables) hub → RunsTo m start how hub heard sent moments
+runs_to m start how s h hub heard sent moments serves leaves = record { ended = served s h heard sent moments; serves = serves; leaves = leaves; heard_is = refl; sent_is = refl; moments_is = refl }

@@ -85,6 +85,7 @@ fn put_first<L: Link>(link: &mut L, joined: &mut Octets, bytes: &[u8]) -> Went
 }
 
 /// A piece goes behind what is joined: it is joined too, or what is there goes first.
+#[tactic(auto, using(crate::proofs::Sendings::goes_behind, crate::proofs::Sendings::flush_stops))]
 fn put<L: Link>(link: &mut L, joined: &mut Octets, bytes: &[u8]) -> Went
     ensures sent { PutBy (L.sent link.old) joined.old bytes.now result (L.sent link.new) joined.new }
     ensures heard { L.heard link.new ≡ L.heard link.old }

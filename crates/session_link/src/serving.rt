@@ -3,7 +3,12 @@
 ghost use Rattle.std.specs.Prelude.{◌≡◌, ◌<◌, Some, length, IfOk};
 ghost use Rattle.std.specs.List.{AllByRecursion};
 ghost use Rattle.outside_io.specs.Causes.{HasCause};
+ghost use Rattle.hub_terms.specs.Programs.{Runs};
+ghost use Rattle.session_tables.specs.Opening.{silent};
+ghost use Rattle.session_tables.specs.declared.tables.SessionEnd.TheVariants.{PeerEnded};
+ghost use Rattle.session_core.specs.Living.{link_ended_row};
 ghost use Rattle.session_core.specs.Outgoing.{IsSayableUnasked};
+ghost use Rattle.session_core.specs.Sessions.{link_ended};
 ghost use Rattle.session_link.specs.Turns.{served, ended_by, end_of, ReplyBy, TurnBy, Serves, RunsTo};
 
 use crate::ending::ended_of_itself;
@@ -125,6 +130,15 @@ fn serve<W: Wait, L: Link, H: Hub, C: Clock>(
     }
 }
 
+/// The link ended: each consumer of the session leaves its group.
+#[tactic(auto, using(crate::proofs::Runs::leaves_as))]
+fn leave<H: Hub>(hub: &mut H, mut session: Session)
+    ensures leaves { Runs H.meaning (link_ended_row session.tables) hub.old (silent (link_ended PeerEnded session).tables) hub.new }
+    ensures later { H.meaning.seen.later hub.old hub.new }
+{
+    session.link_ended(hub);
+}
+
 /// Serves a link, turn by turn, until it or its session ends, and gives how; then each consumer of the session leaves its group.
 ///
 /// A turn is one receive, after which the clock is asked once: a piece that came is fed, and in any case the session ticks and is
@@ -148,6 +162,6 @@ pub fn serve_link<W: Wait, L: Link, H: Hub, C: Clock>(
     ensures write { HasCause (L.faults link.old) (L.faults link.new) (result ≡ SessionEnd.WriteFault) }
 {
     let how = serve(rt, alloc, link, hub, clock, &mut session);
-    session.link_ended(hub);
+    leave(hub, session);
     how
 }
