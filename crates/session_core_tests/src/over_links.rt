@@ -23,6 +23,7 @@ use std::sync::Wait;
 
 /// A link: the peer's frames; the receives that find nothing, those that fail, and the sends that fail, by their numbers from 1;
 /// the moments of the clock; how the link ends; and the frames that are sent.
+#[derive(Clone, Copy, Debug)]
 struct Case {
     peer: &'static [&'static str],
     quiets: &'static [u64],
