@@ -1,0 +1,2 @@
+mod OneDisk
+mod Doings

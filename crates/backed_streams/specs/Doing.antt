@@ -1,0 +1,36 @@
+-- What a store tells of a job on its answer, and what then happens to the stream.
+use Rattle.std.specs.Prelude.{◌≡◌, ℕ, ◌++◌, List, OnOk, Result, Ok, Err}
+use Rattle.disk_calls.specs.Disk.{DiskState}
+use Rattle.chunk_format.specs.declared.chunk.Chunk.{Chunk}
+use Rattle.gated_words.specs.InHand.{InHand}
+use Rattle.gated_words.specs.Backing.{Backs, MayAdd}
+use Rattle.segment_pairs.specs.Held.{EachLog}
+use Rattle.epoch_coordinator.specs.declared.message.Job.{Job}
+use Rattle.cluster_core.specs.declared.outcome.Outcome.{Outcome}
+use Rattle.cluster_core.specs.States.{ReplicaState, Gives}
+use Rattle.cluster_core.specs.Kept.{after_done, after_stop}
+use Rattle.segment_store.specs.declared.fault.StoreFault.{StoreFault}
+use Rattle.segment_store.specs.Receipts.{JobDone}
+use Rattle.segment_store.specs.Words.{word_of, EachWord}
+use Rattle.segment_store.specs.Stores.{StoreInHand, BackedStore, EachPromise, LogBetween, PromiseBetween, SameKeeper, log_after, promise_after, promise_of}
+
+-- a member's store, of a job over a disk with a log: what each image has on every answer, and what stands once the job is done
+pub record JobTold (job : Job) (log : List Chunk) (old new : StoreInHand) (result : Result JobDone StoreFault) (s : DiskState) : Type 0 where
+  pub log_left : EachLog old.stream (LogBetween job log) s
+  pub promise_left : EachPromise old.stream (PromiseBetween job (promise_of old)) s
+  pub keeper : SameKeeper old new
+  pub done : OnOk result (BackedStore new (log_after job log) s)
+  pub promised : OnOk result (promise_of new ≡ promise_after job (promise_of old))
+
+-- the same of the store of epochs, which gives a stream an epoch
+pub record EpochTold (stream epoch : ℕ) (old new : InHand) (result : Result JobDone StoreFault) (s t : DiskState) : Type 0 where
+  pub images : MayAdd old.id (stream, epoch) s t
+  pub backs : Backs new t
+  pub id_is : new.id ≡ old.id
+  pub given : OnOk result (word_of stream new.pairs ≡ epoch)
+  pub only : (other : ℕ) → OnOk result (EachWord old.id other (λ word. word ≡ word_of other new.pairs) t)
+
+-- behind a job that was done its receipt comes to the stream, behind one that failed a stop of who did it; whatever is due, and whatever came
+abbrev pub DoneOrStop : Result JobDone StoreFault → ℕ → Outcome → Outcome → ReplicaState → ReplicaState → Type 0
+DoneOrStop (Ok receipt) k due came old new = Gives due came old new (after_done k old)
+DoneOrStop (Err fault) k due came old new = Gives due came old new (after_stop k old)

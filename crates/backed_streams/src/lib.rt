@@ -1,0 +1,13 @@
+//! The disks of a stream, over what happens to its members: what a crash may leave of them belongs to the stream, so more
+//! than half of them keep what is committed. Each function does nothing; its contract is the law.
+#![tactic(auto)]
+
+mod epoch_laws;
+mod member_laws;
+
+pub use epoch_laws::{
+    a_job_keeps_an_epoch_backed, a_recovered_epoch_is_backed, epochs_stay_backed,
+};
+pub use member_laws::{
+    a_job_keeps_a_member_backed, a_recovered_member_is_backed, members_disks_stay_backed,
+};
