@@ -1,2 +1,5 @@
 mod OneDisk
 mod Doings
+mod Widening
+mod Disks
+mod Happening

@@ -1,5 +1,5 @@
 -- How the disks of a stream belong to its members and its coordinator.
-use Rattle.std.specs.Prelude.{◌≡◌, ℕ, ◌<◌, ◌≤◌, Bool, true, List, length}
+use Rattle.std.specs.Prelude.{◌≡◌, ◌≢◌, ℕ, ◌<◌, ◌≤◌, Bool, true, List, length}
 use Rattle.disk_calls.specs.Disk.{DiskState}
 use Rattle.chunk_format.specs.declared.chunk.Chunk.{Chunk}
 use Rattle.chunk_format.specs.Logs.{GoesOn}
@@ -31,6 +31,10 @@ pub record IsInHand (stream : ℕ) (m : MemberState) (store : StoreInHand) (s : 
   pub promised : promise_of store ≡ m.promise
 
 -- ---- all disks of a stream
+
+-- of what is numbered only the one of a number changes
+abbrev pub OthersStay : {A : Type 0} → ℕ → (ℕ → A) → (ℕ → A) → Type 0
+OthersStay k old new = (j : ℕ) → j ≢ k → new j ≡ old j
 
 -- each member's disk, by number from 1 on, and that of the coordinator, number 0
 pub record BackedBy (stream : ℕ) (seats : List Seat) (c : CoordinatorState) (disks : ℕ → DiskState) : Type 0 where

@@ -7,8 +7,9 @@ use Rattle.gated_words.specs.Backing.{Backs, MayAdd}
 use Rattle.segment_pairs.specs.Held.{EachLog}
 use Rattle.epoch_coordinator.specs.declared.message.Job.{Job}
 use Rattle.cluster_core.specs.declared.outcome.Outcome.{Outcome}
-use Rattle.cluster_core.specs.States.{ReplicaState, Gives}
-use Rattle.cluster_core.specs.Kept.{after_done, after_stop}
+use Rattle.cluster_core.specs.declared.outcome.Outcome.TheVariants.{Did}
+use Rattle.cluster_core.specs.States.{ReplicaState, Gives, elect_due, deliver_due, lose_due, stop_due}
+use Rattle.cluster_core.specs.Kept.{after_elect, after_deliver, after_lose, after_forget, after_nudge, after_done, after_stop}
 use Rattle.segment_store.specs.declared.fault.StoreFault.{StoreFault}
 use Rattle.segment_store.specs.Receipts.{JobDone}
 use Rattle.segment_store.specs.Words.{word_of, EachWord}
@@ -34,3 +35,12 @@ pub record EpochTold (stream epoch : ℕ) (old new : InHand) (result : Result Jo
 abbrev pub DoneOrStop : Result JobDone StoreFault → ℕ → Outcome → Outcome → ReplicaState → ReplicaState → Type 0
 DoneOrStop (Ok receipt) k due came old new = Gives due came old new (after_done k old)
 DoneOrStop (Err fault) k due came old new = Gives due came old new (after_stop k old)
+
+-- an event that touches no disk, at a moment, whatever came of it
+pub data QuietEvent (now : ℕ) (old new : ReplicaState) : Type 0 where
+  Elects : (came : Outcome) → Gives (elect_due old.cluster) came old new (after_elect old) → QuietEvent now old new
+  Delivers : (number : ℕ) (came : Outcome) → Gives (deliver_due number old.cluster) came old new (after_deliver number now old) → QuietEvent now old new
+  Loses : (number : ℕ) (came : Outcome) → Gives (lose_due number old.cluster) came old new (after_lose number old) → QuietEvent now old new
+  Forgets : (came : Outcome) → Gives Did came old new (after_forget old) → QuietEvent now old new
+  Nudges : (came : Outcome) → Gives Did came old new (after_nudge old) → QuietEvent now old new
+  Stops : (k : ℕ) (came : Outcome) → Gives (stop_due k old.cluster) came old new (after_stop k old) → QuietEvent now old new

@@ -4,6 +4,7 @@
 
 mod epoch_laws;
 mod member_laws;
+mod stream_laws;
 
 pub use epoch_laws::{
     a_job_keeps_an_epoch_backed, a_recovered_epoch_is_backed, epochs_stay_backed,
@@ -11,3 +12,4 @@ pub use epoch_laws::{
 pub use member_laws::{
     a_job_keeps_a_member_backed, a_recovered_member_is_backed, members_disks_stay_backed,
 };
+pub use stream_laws::{one_disk_changes, quiet_events_keep_streams_backed};
