@@ -3,3 +3,7 @@ mod Doings
 mod Widening
 mod Disks
 mod Happening
+mod DoneJobs
+mod Returns
+mod Opened
+mod Lasting
