@@ -7,3 +7,4 @@ mod DoneJobs
 mod Returns
 mod Opened
 mod Lasting
+mod Refusing

@@ -6,6 +6,7 @@ mod durable_laws;
 mod epoch_laws;
 mod job_laws;
 mod member_laws;
+mod refused_disks;
 mod return_laws;
 mod stream_laws;
 
@@ -20,6 +21,7 @@ pub use job_laws::{
 pub use member_laws::{
     a_job_keeps_a_member_backed, a_recovered_member_is_backed, members_disks_stay_backed,
 };
+pub use refused_disks::disks_that_do_not_belong;
 pub use return_laws::{
     opened_streams_are_backed, recovered_coordinators_return, recovered_members_return,
 };
