@@ -51,8 +51,8 @@ between_may m (Promise epoch) word is (inl b) = inl b
 between_may m (Promise epoch) word is (inr b) = inr (is ∙ ap (λ (e : ℕ). Some (Promise e)) (sym b))
 between_may m (Epoch epoch) word is b = inl b
 
-pub job_left : (stream : ℕ) (m : MemberState) (job : Job) (store new : StoreInHand) (result : Result JobDone StoreFault) (s t : DiskState) → IsLog m.log → ContinuesLog m.log job → m.job ≡ Some job → IsInHand stream m store s → JobTold job m.log store new result t → BackedMember stream m t
-job_left stream m job store new result s t whole go is h told = record {
+pub job_left : (stream : ℕ) (m : MemberState) (job : Job) (number : ℕ) (store new : StoreInHand) (result : Result JobDone StoreFault) (s t : DiskState) → IsLog m.log → ContinuesLog m.log job → m.job ≡ Some job → IsInHand stream m store s → JobTold job number m.log store new result t → BackedMember stream m t
+job_left stream m job number store new result s t whole go is h told = record {
   log = λ F pick picks. held (LogOf F (files_of stream pick)) (logs F pick picks);
   promise = λ files left. between_may m job (word_of stream (PairsOf files)) is (words files left);
 }
@@ -98,8 +98,8 @@ done_as m (Epoch epoch) go = absurd go
 pub finished_as : (m : MemberState) (job : Job) → ContinuesLog m.log job → m.job ≡ Some job → FinishedAs m job (finished m).state
 finished_as m job go is = subst (λ (j : Option Job). FinishedAs m job (finished_by j m).state) (sym is) (done_as m job go)
 
-pub job_in_hand : (stream : ℕ) (m : MemberState) (job : Job) (store new : StoreInHand) (receipt : JobDone) (s t : DiskState) → ContinuesLog m.log job → m.job ≡ Some job → IsInHand stream m store s → JobTold job m.log store new (Ok receipt) t → IsInHand stream (finished m).state new t
-job_in_hand stream m job store new receipt s t go is h told =
+pub job_in_hand : (stream : ℕ) (m : MemberState) (job : Job) (number : ℕ) (store new : StoreInHand) (receipt : JobDone) (s t : DiskState) → ContinuesLog m.log job → m.job ≡ Some job → IsInHand stream m store s → JobTold job number m.log store new (Ok receipt) t → IsInHand stream (finished m).state new t
+job_in_hand stream m job number store new receipt s t go is h told =
     let f = finished_as m job go is in
     record {
       stream_is = told.keeper.stream ∙ h.stream_is;
@@ -108,8 +108,8 @@ job_in_hand stream m job store new receipt s t go is h told =
       promised = told.promised ∙ (ap (promise_after job) h.promised ∙ sym f.promise_is);
     }
 
-pub job_done : (stream : ℕ) (m : MemberState) (job : Job) (store new : StoreInHand) (receipt : JobDone) (s t : DiskState) → ContinuesLog m.log job → m.job ≡ Some job → IsInHand stream m store s → JobTold job m.log store new (Ok receipt) t → BackedMember stream (finished m).state t
-job_done stream m job store new receipt s t go is h told = in_hand_backed stream (finished m).state new t (finished_as m job go is).own (job_in_hand stream m job store new receipt s t go is h told)
+pub job_done : (stream : ℕ) (m : MemberState) (job : Job) (number : ℕ) (store new : StoreInHand) (receipt : JobDone) (s t : DiskState) → ContinuesLog m.log job → m.job ≡ Some job → IsInHand stream m store s → JobTold job number m.log store new (Ok receipt) t → BackedMember stream (finished m).state t
+job_done stream m job number store new receipt s t go is h told = in_hand_backed stream (finished m).state new t (finished_as m job go is).own (job_in_hand stream m job number store new receipt s t go is h told)
 
 -- ---- a pending job continues the log
 
@@ -124,13 +124,13 @@ pending_continues g w k s job h is = continues_by g w k s.state.promise s.state.
 
 -- ---- the coordinator's job
 
-pub epoch_job_left : (stream epoch : ℕ) (c : CoordinatorState) (hand new : InHand) (result : Result JobDone StoreFault) (s t : DiskState) → hand.id ≡ epochs_file → c.job ≡ Some epoch → EpochTold stream epoch hand new result s t → BackedEpoch stream c s → BackedEpoch stream c t
-epoch_job_left stream epoch c hand new result s t id is told b = epoch_left stream epoch c s t is (subst (λ (f : FileId). MayAdd f (stream, epoch) s t) id told.images) b
+pub epoch_job_left : (stream epoch number : ℕ) (c : CoordinatorState) (hand new : InHand) (result : Result JobDone StoreFault) (s t : DiskState) → hand.id ≡ epochs_file → c.job ≡ Some epoch → EpochTold stream epoch number hand new result s t → BackedEpoch stream c s → BackedEpoch stream c t
+epoch_job_left stream epoch number c hand new result s t id is told b = epoch_left stream epoch c s t is (subst (λ (f : FileId). MayAdd f (stream, epoch) s t) id told.images) b
 
-pub epoch_job_apart : (stream other epoch : ℕ) (c : CoordinatorState) (hand new : InHand) (result : Result JobDone StoreFault) (s t : DiskState) → hand.id ≡ epochs_file → stream ≢ other → EpochTold stream epoch hand new result s t → BackedEpoch other c s → BackedEpoch other c t
-epoch_job_apart stream other epoch c hand new result s t id ne told b = epoch_apart stream other epoch (MayBegin c) s t ne (subst (λ (f : FileId). MayAdd f (stream, epoch) s t) id told.images) b
+pub epoch_job_apart : (stream other epoch number : ℕ) (c : CoordinatorState) (hand new : InHand) (result : Result JobDone StoreFault) (s t : DiskState) → hand.id ≡ epochs_file → stream ≢ other → EpochTold stream epoch number hand new result s t → BackedEpoch other c s → BackedEpoch other c t
+epoch_job_apart stream other epoch number c hand new result s t id ne told b = epoch_apart stream other epoch (MayBegin c) s t ne (subst (λ (f : FileId). MayAdd f (stream, epoch) s t) id told.images) b
 
-pub epoch_job_done : (stream epoch : ℕ) (c : CoordinatorState) (hand new : InHand) (receipt : JobDone) (s t : DiskState) → hand.id ≡ epochs_file → EpochTold stream epoch hand new (Ok receipt) s t → BackedEpoch stream (begun epoch c) t
-epoch_job_done stream epoch c hand new receipt s t id told =
+pub epoch_job_done : (stream epoch number : ℕ) (c : CoordinatorState) (hand new : InHand) (receipt : JobDone) (s t : DiskState) → hand.id ≡ epochs_file → EpochTold stream epoch number hand new (Ok receipt) s t → BackedEpoch stream (begun epoch c) t
+epoch_job_done stream epoch number c hand new receipt s t id told =
     let only : EachWord epochs_file stream (λ word. word ≡ word_of stream new.pairs) t = subst (λ (f : FileId). EachWord f stream (λ word. word ≡ word_of stream new.pairs) t) id (told.only stream) in
     epoch_is stream (word_of stream new.pairs) (begun epoch c) t told.given only

@@ -36,12 +36,12 @@ pub fn epochs_stay_backed<D: Disk>()
 /// answer, and to that of each other stream; where the job is done, the disk belongs to the coordinator behind the job. It
 /// does nothing.
 pub fn a_job_keeps_an_epoch_backed<D: Disk>()
-    ensures left { (stream epoch : ℕ) (c : CoordinatorState) (hand after : InHand) (result : Result JobDone StoreFault) (old new : D)
-        → hand.id ≡ epochs_file → c.job ≡ Some epoch → EpochTold stream epoch hand after result (D.state old) (D.state new) → BackedEpoch stream c (D.state old) → BackedEpoch stream c (D.state new) }
-    ensures done { (stream epoch : ℕ) (c : CoordinatorState) (hand after : InHand) (receipt : JobDone) (old new : D)
-        → hand.id ≡ epochs_file → EpochTold stream epoch hand after (Ok receipt) (D.state old) (D.state new) → BackedEpoch stream (begun epoch c) (D.state new) }
-    ensures apart { (stream other epoch : ℕ) (c : CoordinatorState) (hand after : InHand) (result : Result JobDone StoreFault) (old new : D)
-        → hand.id ≡ epochs_file → stream ≢ other → EpochTold stream epoch hand after result (D.state old) (D.state new) → BackedEpoch other c (D.state old) → BackedEpoch other c (D.state new) }
+    ensures left { (stream epoch number : ℕ) (c : CoordinatorState) (hand after : InHand) (result : Result JobDone StoreFault) (old new : D)
+        → hand.id ≡ epochs_file → c.job ≡ Some epoch → EpochTold stream epoch number hand after result (D.state old) (D.state new) → BackedEpoch stream c (D.state old) → BackedEpoch stream c (D.state new) }
+    ensures done { (stream epoch number : ℕ) (c : CoordinatorState) (hand after : InHand) (receipt : JobDone) (old new : D)
+        → hand.id ≡ epochs_file → EpochTold stream epoch number hand after (Ok receipt) (D.state old) (D.state new) → BackedEpoch stream (begun epoch c) (D.state new) }
+    ensures apart { (stream other epoch number : ℕ) (c : CoordinatorState) (hand after : InHand) (result : Result JobDone StoreFault) (old new : D)
+        → hand.id ≡ epochs_file → stream ≢ other → EpochTold stream epoch number hand after result (D.state old) (D.state new) → BackedEpoch other c (D.state old) → BackedEpoch other c (D.state new) }
 {}
 
 /// The epoch of a stream that the recovery of the store of epochs gives is one that the disk of its coordinator may have,

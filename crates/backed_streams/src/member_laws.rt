@@ -34,12 +34,12 @@ pub fn members_disks_stay_backed<D: Disk>()
 /// A member's store that does the pending job leaves a disk that belongs to the member, whatever its answer; where the job
 /// is done, the store is then that of the member behind the job, to which the disk belongs. It does nothing.
 pub fn a_job_keeps_a_member_backed<D: Disk>()
-    ensures left { (stream : ℕ) (m : MemberState) (job : Job) (store after : StoreInHand) (result : Result JobDone StoreFault) (old new : D)
-        → IsLog m.log → ContinuesLog m.log job → m.job ≡ Some job → IsInHand stream m store (D.state old) → JobTold job m.log store after result (D.state new) → BackedMember stream m (D.state new) }
-    ensures in_hand { (stream : ℕ) (m : MemberState) (job : Job) (store after : StoreInHand) (receipt : JobDone) (old new : D)
-        → ContinuesLog m.log job → m.job ≡ Some job → IsInHand stream m store (D.state old) → JobTold job m.log store after (Ok receipt) (D.state new) → IsInHand stream (finished m).state after (D.state new) }
-    ensures done { (stream : ℕ) (m : MemberState) (job : Job) (store after : StoreInHand) (receipt : JobDone) (old new : D)
-        → ContinuesLog m.log job → m.job ≡ Some job → IsInHand stream m store (D.state old) → JobTold job m.log store after (Ok receipt) (D.state new) → BackedMember stream (finished m).state (D.state new) }
+    ensures left { (stream : ℕ) (m : MemberState) (job : Job) (number : ℕ) (store after : StoreInHand) (result : Result JobDone StoreFault) (old new : D)
+        → IsLog m.log → ContinuesLog m.log job → m.job ≡ Some job → IsInHand stream m store (D.state old) → JobTold job number m.log store after result (D.state new) → BackedMember stream m (D.state new) }
+    ensures in_hand { (stream : ℕ) (m : MemberState) (job : Job) (number : ℕ) (store after : StoreInHand) (receipt : JobDone) (old new : D)
+        → ContinuesLog m.log job → m.job ≡ Some job → IsInHand stream m store (D.state old) → JobTold job number m.log store after (Ok receipt) (D.state new) → IsInHand stream (finished m).state after (D.state new) }
+    ensures done { (stream : ℕ) (m : MemberState) (job : Job) (number : ℕ) (store after : StoreInHand) (receipt : JobDone) (old new : D)
+        → ContinuesLog m.log job → m.job ≡ Some job → IsInHand stream m store (D.state old) → JobTold job number m.log store after (Ok receipt) (D.state new) → BackedMember stream (finished m).state (D.state new) }
 {}
 
 /// What the recovery of a member's store gives is what the disk that belonged to the member may have, so the member may
