@@ -1,6 +1,6 @@
 -- A job of one member.
 use Rattle.std.proofs.Common.{◌≡◌, ◌≢◌, inl, inr, ℕ, ◌≤◌, List, [], ◌∷◌, ◌++◌, Option, Some, None, refl, sym, ap, subst, ◌∙◌, arith}
-use Rattle.std.specs.Prelude.{OnOk, Result, Ok, Err}
+use Rattle.std.specs.Prelude.{Result, Ok}
 use Rattle.disk_calls.specs.declared.file_id.FileId.{FileId}
 use Rattle.disk_calls.specs.Disk.{DiskState}
 use Rattle.chunk_format.specs.declared.chunk.Chunk.{Chunk}
@@ -25,7 +25,7 @@ use Rattle.segment_store.specs.declared.fault.StoreFault.{StoreFault}
 use Rattle.segment_store.specs.Receipts.{JobDone}
 use Rattle.segment_store.specs.Jobs.{Between}
 use Rattle.segment_store.specs.Words.{word_of, epochs_file, EachWord}
-use Rattle.segment_store.specs.Stores.{StoreInHand, BackedStore, EachPromise, ContinuesLog, LogBetween, PromiseBetween, SameKeeper, log_after, promise_after, promise_of}
+use Rattle.segment_store.specs.Stores.{StoreInHand, BackedStore, EachPromise, ContinuesLog, LogBetween, PromiseBetween, log_after, promise_after, promise_of}
 use Rattle.backed_streams.specs.Backing.{BackedMember, BackedEpoch, IsInHand}
 use Rattle.backed_streams.specs.Doing.{JobTold, EpochTold}
 use Rattle.backed_streams.proofs.OneDisk.{in_hand_backed, epoch_left, epoch_apart, epoch_is}

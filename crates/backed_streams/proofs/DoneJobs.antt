@@ -1,15 +1,15 @@
 -- A job of a stream is done on a disk, and then comes to the stream, or who did it stops.
-use Rattle.std.proofs.Common.{◌≡◌, ◌≢◌, inl, inr, ℕ, zero, suc, ◌<◌, ◌≤◌, ◌==◌, ◌&&◌, Bool, true, false, cond, nat_lt, List, [], length, is_some, Option, Some, None, Result, Ok, Err, refl, sym, ap, subst, ◌∙◌, arith}
+use Rattle.std.proofs.Common.{◌≡◌, ◌≢◌, inl, inr, ℕ, zero, suc, ◌<◌, ◌==◌, ◌&&◌, Bool, true, false, cond, nat_lt, [], length, is_some, Option, Some, None, Result, Ok, Err, refl, sym, ap, subst, ◌∙◌, arith}
 use Rattle.std.proofs.lemmas.Bool.{cases_eq}
-use Rattle.disk_calls.specs.Disk.{DiskState, LeftByCrash, Looks}
+use Rattle.disk_calls.specs.Disk.{DiskState, LeftByCrash}
 use Rattle.disk_calls.specs.Frames.{OtherStreams}
 use Rattle.gated_words.specs.InHand.{InHand}
-use Rattle.chunk_format.specs.Logs.{Truthful, IsLog}
+use Rattle.chunk_format.specs.Logs.{IsLog}
 use Rattle.epoch_coordinator.specs.declared.message.Job.{Job}
 use Rattle.epoch_coordinator.specs.Members.{MemberState}
 use Rattle.epoch_coordinator.specs.MemberSteps.{finished}
 use Rattle.epoch_coordinator.specs.Coordinators.{begun}
-use Rattle.replication_laws.specs.Cluster.{Seat, ClusterState, seat, member, IsMember, put, Holds, MayPromise}
+use Rattle.replication_laws.specs.Cluster.{ClusterState, seat, member, IsMember, Holds, MayPromise}
 use Rattle.replication_laws.specs.Events.{MayBegin, begins, performed}
 use Rattle.replication_laws.specs.Soundness.{MemberHolds}
 use Rattle.replication_laws.proofs.Carry.{holds_log}
@@ -23,8 +23,8 @@ use Rattle.segment_store.specs.Receipts.{JobDone}
 use Rattle.segment_store.specs.Words.{epochs_file}
 use Rattle.segment_store.specs.Stores.{StoreInHand, Continues, ContinuesLog, promise_file}
 use Rattle.segment_store.proofs.Lasting.{ImagesOf, continues_store, keeps_streams, backed_streams, crash_images}
-use Rattle.backed_streams.specs.Backing.{BackedMember, BackedEpoch, IsInHand, Backed, AllInHand, OthersStay}
-use Rattle.backed_streams.specs.Doing.{JobTold, EpochTold, MemberDoes, CoordinatorDoes, DoneOrStop}
+use Rattle.backed_streams.specs.Backing.{BackedMember, IsInHand, Backed, AllInHand, OthersStay}
+use Rattle.backed_streams.specs.Doing.{EpochTold, MemberDoes, CoordinatorDoes, DoneOrStop}
 use Rattle.backed_streams.proofs.OneDisk.{member_keeps, words_images}
 use Rattle.backed_streams.proofs.Doings.{job_left, job_in_hand, job_done, pending_continues, epoch_job_left, epoch_job_done, epoch_job_apart}
 use Rattle.backed_streams.proofs.Disks.{states, backed_put, backed_first, backed_at, in_hand_put, in_hand_first}

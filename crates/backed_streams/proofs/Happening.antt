@@ -1,11 +1,11 @@
 -- Events that touch no disk.
-use Rattle.std.proofs.Common.{◌≡◌, ◌≢◌, inl, inr, ℕ, zero, suc, ◌+◌, ◌<◌, ◌≤◌, Bool, true, false, cond, not, ◌&&◌, List, [], ◌∷◌, ◌++◌, length, Option, Some, None, is_some, refl, sym, ap, subst, ◌∙◌, arith}
+use Rattle.std.proofs.Common.{◌≡◌, ◌≢◌, ℕ, zero, suc, Bool, true, false, cond, not, ◌&&◌, List, Option, Some, None, is_some, refl, sym, subst, arith}
 use Rattle.disk_calls.specs.Disk.{DiskState}
 use Rattle.chunk_format.specs.declared.chunk.Chunk.{Chunk}
 use Rattle.epoch_coordinator.specs.declared.message.Message.{Message}
 use Rattle.epoch_coordinator.specs.declared.message.Message.TheVariants as messages
 use Rattle.epoch_coordinator.specs.declared.message.Sent.{Sent}
-use Rattle.epoch_coordinator.specs.Members.{MemberState, Stopped, sequence_of}
+use Rattle.epoch_coordinator.specs.Members.{Stopped, sequence_of}
 use Rattle.epoch_coordinator.specs.MemberSteps.{taken, stamp_at}
 use Rattle.epoch_coordinator.specs.Coordinators.{elect, stopped}
 use Rattle.epoch_coordinator.specs.Offers.{offered_chunks, stored_chunks}
@@ -14,12 +14,12 @@ use Rattle.replication_laws.specs.Events.{comes, to_coordinator, goes_down, all_
 use Rattle.cluster_core.specs.declared.outcome.Outcome.{Outcome}
 use Rattle.cluster_core.specs.declared.outcome.Outcome.TheVariants.{Did, Nothing, Later, Last, Differs, Memory}
 use Rattle.cluster_core.specs.Up.{is_up, has_job}
-use Rattle.cluster_core.specs.States.{ReplicaState, Gives, reigned, elect_due, deliver_by, deliver_due, lose_due, stop_due}
+use Rattle.cluster_core.specs.States.{ReplicaState, Gives, elect_due, deliver_by, deliver_due, lose_due, stop_due}
 use Rattle.cluster_core.specs.Kept.{after_elect, after_deliver, after_lose, after_forget, after_nudge, after_stop, delivered_by}
 use Rattle.segment_store.specs.Stores.{StoreInHand}
-use Rattle.backed_streams.specs.Backing.{BackedMember, BackedEpoch, IsInHand, Backed, BackedBy, AllInHand, OthersStay}
+use Rattle.backed_streams.specs.Backing.{IsInHand, Backed, AllInHand, OthersStay}
 use Rattle.backed_streams.specs.Doing.{QuietEvent, Elects, Delivers, Loses, Forgets, Nudges, Stops}
-use Rattle.backed_streams.proofs.Widening.{Widens, WidensEpoch, widens_role, taken_widens, all_widen, elect_widens, stopped_widens}
+use Rattle.backed_streams.proofs.Widening.{Widens, widens_role, taken_widens, all_widen, elect_widens, stopped_widens}
 use Rattle.backed_streams.proofs.Disks.{states, member_widens, in_hand_widens, epoch_widens, backed_put, backed_first, in_hand_put}
 
 -- ---- what comes of an event

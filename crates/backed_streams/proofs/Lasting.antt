@@ -1,5 +1,5 @@
 -- Lists that a majority of disks keeps.
-use Rattle.std.proofs.Common.{◌≡◌, inl, inr, ℕ, zero, suc, ◌<◌, ◌≤◌, Bool, true, false, List, [], ◌∷◌, ◌++◌, length, refl, sym, ap, subst, ◌∙◌, arith}
+use Rattle.std.proofs.Common.{◌≡◌, ℕ, zero, suc, ◌<◌, ◌≤◌, Bool, true, false, List, [], ◌∷◌, length, arith}
 use Rattle.std.specs.Prelude.{slice_index_or}
 use Rattle.disk_calls.specs.declared.file_id.FileId.{FileId}
 use Rattle.disk_calls.specs.Disk.{DiskState}
@@ -9,7 +9,7 @@ use Rattle.chunk_format.proofs.BeginLaws.{goes_on}
 use Rattle.segment_pairs.specs.Log.{Finder, LogOf}
 use Rattle.segment_pairs.specs.Held.{EachLog, files_of, seen_log}
 use Rattle.replication_laws.specs.Majorities.{IsMajority, is_voter}
-use Rattle.replication_laws.specs.Cluster.{ClusterState, IsMember, member}
+use Rattle.replication_laws.specs.Cluster.{ClusterState}
 use Rattle.replication_laws.specs.Soundness.{Kept}
 use Rattle.replication_laws.proofs.Meetings.{majorities}
 use Rattle.cluster_core.specs.States.{IsStream, reigned}

@@ -1,10 +1,10 @@
 -- The disk of one member, and that of the coordinator.
-use Rattle.std.proofs.Common.{◌≡◌, ◌≢◌, inl, inr, ℕ, ◌≤◌, List, [], ◌∷◌, ◌++◌, Bool, Option, Some, None, refl, sym, ap, subst, ◌∙◌, arith, ◌==◌, if◌then◌else◌}
+use Rattle.std.proofs.Common.{◌≡◌, ◌≢◌, inl, inr, ℕ, List, [], ◌∷◌, ◌++◌, Bool, Some, None, refl, sym, ap, subst, ◌∙◌, ◌==◌, if◌then◌else◌}
 use Rattle.std.specs.Prelude.{IsTrue}
 use Rattle.std.proofs.lemmas.Bool.{ne_eqb}
 use Rattle.disk_calls.specs.declared.file_id.FileId.{FileId}
-use Rattle.disk_calls.specs.Disk.{DiskState, LeftByCrash, Looks}
-use Rattle.disk_calls.specs.Frames.{FileStays, OtherStreams}
+use Rattle.disk_calls.specs.Disk.{DiskState}
+use Rattle.disk_calls.specs.Frames.{FileStays}
 use Rattle.chunk_format.specs.declared.chunk.Chunk.{Chunk}
 use Rattle.gated_words.specs.Files.{Files, Leaves, PairsOf, second_file, seen_files}
 use Rattle.gated_words.specs.InHand.{InHand}
@@ -19,11 +19,11 @@ use Rattle.replication_laws.specs.Cluster.{Holds, MayPromise}
 use Rattle.replication_laws.specs.Events.{MayBegin}
 use Rattle.segment_store.specs.Recoverable.{NoFiles}
 use Rattle.segment_store.specs.Words.{word_from, word_of, epochs_file, EachWord}
-use Rattle.segment_store.specs.Stores.{StoreInHand, BackedStore, EachHolds, KeepsStore, promise_file, promise_of}
+use Rattle.segment_store.specs.Stores.{StoreInHand, EachHolds, KeepsStore, promise_file}
 use Rattle.segment_store.proofs.Storing.{held_each}
 use Rattle.segment_store.proofs.Wording.{word_added}
 use Rattle.segment_store.proofs.Performing.{after_log, after_promise}
-use Rattle.segment_store.proofs.Lasting.{ImagesOf, keeps_crash, keeps_looks, keeps_streams}
+use Rattle.segment_store.proofs.Lasting.{ImagesOf}
 use Rattle.backed_streams.specs.Backing.{BackedMember, BackedEpoch, IsInHand}
 
 -- ---- images of before

@@ -1,22 +1,19 @@
 -- A stream is opened over what disks have.
-use Rattle.std.proofs.Common.{◌≡◌, ◌≢◌, inl, inr, ℕ, zero, suc, ◌+◌, ◌<◌, ◌≤◌, true, List, [], length, refl, sym, ap, subst, ◌∙◌, arith}
-use Rattle.std.specs.Prelude.{slice_index_or}
+use Rattle.std.proofs.Common.{◌≡◌, ℕ, zero, suc, ◌+◌, ◌<◌, ◌≤◌, List, length, refl, sym, ap, subst, arith}
 use Rattle.disk_calls.specs.declared.file_id.FileId.{FileId}
 use Rattle.disk_calls.specs.Disk.{DiskState}
 use Rattle.gated_words.specs.Backing.{KeepsPairs}
 use Rattle.epoch_coordinator.specs.Members.{MemberState}
 use Rattle.epoch_coordinator.specs.MemberSteps.{restarted}
 use Rattle.epoch_coordinator.specs.Coordinators.{opened_with}
-use Rattle.replication_laws.specs.Cluster.{Seat, ClusterState, seat, member, IsMember, Holds, MayPromise}
+use Rattle.replication_laws.specs.Cluster.{Seat, ClusterState, member, Holds, MayPromise}
 use Rattle.replication_laws.specs.Openings.{Start, no_start, start_at, opened_cluster, start_seats, IsRecovered}
-use Rattle.replication_laws.proofs.Followers.{is_up}
 use Rattle.replication_laws.proofs.Starts.{start_count, start_there}
 use Rattle.segment_store.specs.Recoverable.{NoFiles}
 use Rattle.segment_store.specs.Words.{epochs_file, EachWord}
 use Rattle.segment_store.specs.Stores.{StoreInHand, EachHolds, KeepsStore}
-use Rattle.backed_streams.specs.Backing.{BackedMember, BackedEpoch, IsInHand, Backed, AllInHand}
-use Rattle.backed_streams.proofs.OneDisk.{none_holds, no_words, restarted_backed, recovered_may, epoch_is, epoch_found}
-use Rattle.backed_streams.proofs.Disks.{states}
+use Rattle.backed_streams.specs.Backing.{BackedMember, IsInHand, Backed, AllInHand}
+use Rattle.backed_streams.proofs.OneDisk.{none_holds, restarted_backed, recovered_may, epoch_is, epoch_found}
 
 -- the member of a start comes up with it
 abbrev started : List Start → ℕ → MemberState

@@ -1,14 +1,10 @@
 -- Disks that belong to no stream.
-use Rattle.std.proofs.Common.{◌≡◌, inl, inr, ℕ, zero, suc, ◌<◌, ◌≤◌, Bool, true, false, List, [], ◌∷◌, ◌++◌, length, length-append, Option, Some, None, refl, sym, ap, subst, ◌∙◌, arith}
-use Rattle.std.specs.Prelude.{slice_index_or}
+use Rattle.std.proofs.Common.{◌≡◌, inl, inr, ℕ, zero, suc, ◌<◌, ◌≤◌, Bool, true, false, List, [], ◌∷◌, length, length-append, refl, ap, subst, arith}
 use Rattle.disk_calls.specs.Disk.{DiskState}
 use Rattle.frame_wire.specs.Fields as fields
 use Rattle.chunk_format.specs.declared.chunk.Chunk.{Chunk}
 use Rattle.chunk_format.specs.Logs.{GoesOn}
-use Rattle.segment_pairs.specs.Log.{LogOf}
-use Rattle.segment_pairs.specs.Held.{EachLog, files_of}
-use Rattle.epoch_coordinator.specs.declared.message.Job.{Job}
-use Rattle.epoch_coordinator.specs.declared.message.Job.TheVariants.{Promise}
+use Rattle.segment_pairs.specs.Held.{EachLog}
 use Rattle.replication_laws.specs.Majorities.{IsMajority, is_voter}
 use Rattle.replication_laws.specs.Cluster.{ClusterState, member, Holds, MayPromise}
 use Rattle.replication_laws.specs.Events.{MayBegin}

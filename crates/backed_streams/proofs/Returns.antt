@@ -1,21 +1,20 @@
 -- A member comes up again with what recovery gave, or the coordinator.
-use Rattle.std.proofs.Common.{◌≡◌, ◌≢◌, inl, inr, ℕ, zero, suc, ◌<◌, ◌≤◌, Bool, true, false, cond, ◌||◌, ◌==◌, List, [], length, Option, Some, None, refl, sym, ap, subst, ◌∙◌, arith}
+use Rattle.std.proofs.Common.{◌≡◌, inl, inr, ℕ, ◌<◌, Bool, true, false, cond, ◌||◌, ◌==◌, List, length, Option, Some, None, refl, sym, arith}
 use Rattle.disk_calls.specs.declared.file_id.FileId.{FileId}
 use Rattle.disk_calls.specs.Disk.{DiskState}
 use Rattle.chunk_format.specs.declared.chunk.Chunk.{Chunk}
 use Rattle.gated_words.specs.Backing.{KeepsPairs}
-use Rattle.epoch_coordinator.specs.Members.{MemberState}
 use Rattle.epoch_coordinator.specs.MemberSteps.{restarted}
 use Rattle.epoch_coordinator.specs.Coordinators.{CoordinatorState, opened_with}
-use Rattle.replication_laws.specs.Cluster.{Seat, ClusterState, seat, member, IsMember, put, Holds, MayPromise}
-use Rattle.replication_laws.specs.Events.{MayBegin, comes_up, reopens, ClusterStep, Restart, Reopen}
+use Rattle.replication_laws.specs.Cluster.{ClusterState, seat, member, IsMember, Holds, MayPromise}
+use Rattle.replication_laws.specs.Events.{MayBegin, comes_up, reopens, ClusterStep, Restart}
 use Rattle.cluster_core.specs.declared.outcome.Outcome.{Outcome}
 use Rattle.cluster_core.specs.declared.outcome.Outcome.TheVariants.{Did, Nothing, Differs}
 use Rattle.cluster_core.specs.States.{ReplicaState, Gives, begins_by, may_begin, reopen_due}
 use Rattle.cluster_core.specs.Kept.{after_reopen}
 use Rattle.segment_store.specs.Words.{epochs_file, EachWord}
 use Rattle.segment_store.specs.Stores.{StoreInHand, EachHolds, KeepsStore}
-use Rattle.backed_streams.specs.Backing.{BackedMember, BackedEpoch, IsInHand, Backed, AllInHand, OthersStay}
+use Rattle.backed_streams.specs.Backing.{IsInHand, Backed, AllInHand, OthersStay}
 use Rattle.backed_streams.proofs.OneDisk.{words_keep, member_keeps, recovered_may, restarted_backed, epoch_is, epoch_found}
 use Rattle.backed_streams.proofs.Disks.{states, backed_put, backed_first, backed_at, in_hand_put}
 use Rattle.backed_streams.proofs.Happening.{by_gives}

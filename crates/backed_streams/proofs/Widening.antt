@@ -1,12 +1,12 @@
 -- What a member or the coordinator does without a disk: what the disk may have, it may have behind that too.
-use Rattle.std.proofs.Common.{◌≡◌, inl, inr, ℕ, ◌+◌, ◌≤◌, Bool, true, false, cond, ◌&&◌, ◌||◌, ◌==◌, not, List, [], ◌∷◌, ◌++◌, length, nat_lt, Option, Some, None, refl, sym, ap, subst, ◌∙◌, arith}
+use Rattle.std.proofs.Common.{◌≡◌, inl, inr, ℕ, ◌+◌, ◌≤◌, Bool, true, false, cond, ◌&&◌, ◌||◌, ◌==◌, not, List, [], ◌∷◌, ◌++◌, nat_lt, Option, Some, None, refl, sym, subst, ◌∙◌, arith}
 use Rattle.chunk_format.specs.declared.chunk.Chunk.{Chunk}
-use Rattle.chunk_format.specs.Logs.{GoesOn, end_of, opening_chunk}
+use Rattle.chunk_format.specs.Logs.{end_of, opening_chunk}
 use Rattle.chunk_format.proofs.BeginLaws.{goes_same}
 use Rattle.epoch_coordinator.specs.declared.tail.Run.{Run}
 use Rattle.epoch_coordinator.specs.declared.tail.Tail.{Tail}
 use Rattle.epoch_coordinator.specs.declared.message.Job.{Job}
-use Rattle.epoch_coordinator.specs.declared.message.Job.TheVariants.{Write, Cut, Promise, Epoch}
+use Rattle.epoch_coordinator.specs.declared.message.Job.TheVariants.{Write, Cut, Promise}
 use Rattle.epoch_coordinator.specs.declared.message.Message.{Message}
 use Rattle.epoch_coordinator.specs.declared.message.Message.TheVariants as messages
 use Rattle.epoch_coordinator.specs.declared.coordinator.Phase.{Phase}
@@ -15,8 +15,8 @@ use Rattle.epoch_coordinator.specs.declared.coordinator.Elected.TheVariants as e
 use Rattle.epoch_coordinator.specs.declared.coordinator.StoppedDid.TheVariants as did
 use Rattle.epoch_coordinator.specs.Tails.{runs_of, contains}
 use Rattle.epoch_coordinator.specs.Members.{Leading, MemberRole, MemberState, Stopped, Follower, Leader, is_stopped}
-use Rattle.epoch_coordinator.specs.MemberSteps.{Took, silent, says, says_stopped, asks, mail, names_another, epoch_of, is_later_stop, is_another, is_majority, after_stop, after_open, can_open, new_leading, stamp_at, after_follow, chunk_from, acknowledge, send_next, ask_of_leader, after_ask, ends_in, kept_end, after_shape, goes_on, after_append, heard, taken, offered, offered_by, queued_by}
-use Rattle.epoch_coordinator.specs.Coordinators.{CoordinatorState, Elects, Hears, hears, counted, repliers, leader_of, electors_of, tell, told_in_epoch, told_before, open_or_follow, stopped_by, stopped, elect_by, elect}
+use Rattle.epoch_coordinator.specs.MemberSteps.{Took, silent, says, says_stopped, asks, names_another, epoch_of, is_later_stop, is_another, is_majority, after_stop, after_open, can_open, new_leading, stamp_at, after_follow, chunk_from, acknowledge, send_next, ask_of_leader, after_ask, ends_in, kept_end, after_shape, goes_on, after_append, heard, taken, offered, offered_by, queued_by}
+use Rattle.epoch_coordinator.specs.Coordinators.{CoordinatorState, Elects, Hears, hears, counted, repliers, leader_of, electors_of, tell, told_in_epoch, told_before, stopped_by, stopped, elect_by, elect}
 use Rattle.replication_laws.specs.Cluster.{HoldsBy, Holds, MayPromise}
 use Rattle.replication_laws.specs.Events.{all_offered, MayBegin}
 

@@ -1,5 +1,5 @@
 -- What a store tells of a job on its answer, and what then happens to the stream.
-use Rattle.std.specs.Prelude.{◌≡◌, ℕ, ◌++◌, List, IfOk, OnOk, Some, Result, Ok, Err}
+use Rattle.std.specs.Prelude.{◌≡◌, ℕ, List, IfOk, OnOk, Some, Result, Ok, Err}
 use Rattle.disk_calls.specs.Disk.{DiskState}
 use Rattle.chunk_format.specs.declared.chunk.Chunk.{Chunk}
 use Rattle.gated_words.specs.InHand.{InHand}

@@ -1,4 +1,3 @@
-use Rattle.backed_streams.proofs.OneDisk.{in_hand_backed}
 use Rattle.backed_streams.proofs.Doings.{job_left, job_in_hand, job_done}
 use Rattle.backed_streams.proofs.member_laws.a_job_keeps_a_member_backed.Goals as goal
 
