@@ -130,16 +130,9 @@ const CASES: [Case; 8] = [
         quiets: &[2, 3, 4, 5, 6],
         bad_receives: &[7],
         bad_sends: &[],
-        moments: [0, 59_999, 60_000, 60_001, 120_000, 120_001],
+        moments: [0, 59_999, 60_000, 60_001, 119_999, 120_000],
         end: SILENT,
-        sent: &[
-            PEER_TOLD,
-            HANDSHAKE_TOLD,
-            LOGIN_TOLD,
-            HOST_TOLD,
-            HEARTBEAT,
-            HEARTBEAT,
-        ],
+        sent: &[PEER_TOLD, HANDSHAKE_TOLD, LOGIN_TOLD, HOST_TOLD, HEARTBEAT],
     },
 ];
 
