@@ -48,12 +48,7 @@ fn is_kept_of(kept: &Option<Receipt>, stream: u32, member: u8, number: u64) -> b
 }
 
 /// Hands out the receipt of a job, if that is kept.
-fn hand_out(
-    kept: &mut Option<Receipt>,
-    stream: u32,
-    member: u8,
-    number: u64,
-) -> Option<Receipt>
+fn hand_out(kept: &mut Option<Receipt>, stream: u32, member: u8, number: u64) -> Option<Receipt>
     ensures was { IfSome result (λ r. kept.old ≡ Some r) }
     ensures of { IfSome result (λ r. is_receipt_of stream member number r ≡ true) }
     ensures none { IsNone result → is_kept_of stream member number kept.old ≡ false }

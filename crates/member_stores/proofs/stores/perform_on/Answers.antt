@@ -9,4 +9,4 @@ pub returns-in-Some-clause-left : goal.returns-in-Some-clause-left
 returns-in-Some-clause-left g c = λ told on chunks todo suits backed.
     let a = asked c.args.stream c.args.member c.args.number c.args.job.now in
     for_it (λ (x : Shelf). IsUndone a x → Suits a x.store → BackedStore x.store chunks (g.D.Disk.state c.args.disk.now) → JobLeft c.args.job.now x.store chunks (g.D.Disk.state c.perform.new.disk))
-      c.args.shelf.now c.in-Some.on on c.in-Some.is todo.there (λ undone fits stood. c.perform.ensures.left told chunks stood undone fits) todo.undone suits backed
+    c.args.shelf.now c.in-Some.on on c.in-Some.is todo.there (λ undone fits stood. c.perform.ensures.left told chunks stood undone fits) todo.undone suits backed
