@@ -3,3 +3,5 @@ pub mod Nexts
 pub mod Ordered
 pub mod Evented
 pub mod Ending
+pub mod Mails
+pub mod Known
