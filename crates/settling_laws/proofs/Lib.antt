@@ -5,3 +5,4 @@ pub mod Evented
 pub mod Ending
 pub mod Mails
 pub mod Known
+pub mod Heard
