@@ -6,3 +6,4 @@ pub mod Ending
 pub mod Mails
 pub mod Known
 pub mod Heard
+pub mod Bringing
