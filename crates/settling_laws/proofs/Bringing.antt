@@ -45,16 +45,16 @@ others_on w w' e l low k m tells mine asks step (In_step d role lr lj le) = step
 
 -- ---- one member changes
 
-member_is : (w : ClusterState) (j : ℕ) (t : Took) → IsMember w j → member (took j t w) j ≡ t.state
+pub member_is : (w : ClusterState) (j : ℕ) (t : Took) → IsMember w j → member (took j t w) j ≡ t.state
 member_is w j t lt = ap (λ (s : Seat). s.state) (seat_put w j (record { up = true; state = t.state }) lt)
 
-seat_same : (w : ClusterState) (j k : ℕ) (t : Took) → k ≢ j → seat (took j t w) k ≡ seat w k
+pub seat_same : (w : ClusterState) (j k : ℕ) (t : Took) → k ≢ j → seat (took j t w) k ≡ seat w k
 seat_same w j k t ne = seat_else w j k (record { up = true; state = t.state }) ne
 
-member_same : (w : ClusterState) (j k : ℕ) (t : Took) → k ≢ j → member (took j t w) k ≡ member w k
+pub member_same : (w : ClusterState) (j k : ℕ) (t : Took) → k ≢ j → member (took j t w) k ≡ member w k
 member_same w j k t ne = ap (λ (s : Seat). s.state) (seat_same w j k t ne)
 
-runs_on : (w : ClusterState) (e l j : ℕ) (t : Took) → Running_by w e l → IsMember w j → (j ≡ l → t.state.promise ≡ e) → Running_by (took j t w) e l
+pub runs_on : (w : ClusterState) (e l j : ℕ) (t : Took) → Running_by w e l → IsMember w j → (j ≡ l → t.state.promise ≡ e) → Running_by (took j t w) e l
 runs_on w e l j t r lt keeps = record {
   coordinator_up = r.coordinator_up;
   phase = r.phase;

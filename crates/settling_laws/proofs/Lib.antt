@@ -7,3 +7,4 @@ pub mod Mails
 pub mod Known
 pub mod Heard
 pub mod Bringing
+pub mod Leading
