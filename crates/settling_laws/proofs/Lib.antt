@@ -8,3 +8,4 @@ pub mod Known
 pub mod Heard
 pub mod Bringing
 pub mod Leading
+pub mod Working
