@@ -19,7 +19,7 @@ use Rattle.epoch_coordinator.specs.Members.{Leading, MemberRole, MemberState, St
 use Rattle.epoch_coordinator.specs.MemberSteps.{Took, mail, asks, asks_by, cut_at, written, is_another, can_open, finished, finished_by, wrote, taken}
 use Rattle.epoch_coordinator.specs.Coordinators.{CoordinatorState, Hears, hears, stopped, stopped_by, told_before, told_in_epoch, tell, open_or_follow}
 use Rattle.epoch_coordinator.specs.Scripts.{opened}
-use Rattle.replication_laws.specs.Cluster.{Seat, Letter, ClusterState, seat, member, IsMember, durable, last_number, numbered, send, letter_in, marked}
+use Rattle.replication_laws.specs.Cluster.{Seat, Letter, ClusterState, seat_in, seat, member, IsMember, durable, last_number, numbered, send, letter_in, marked}
 use Rattle.replication_laws.specs.Events.{took, performed, to_coordinator, heard_by}
 use Rattle.replication_laws.specs.Soundness.{Tree, MessageHolds, IsOfFollower, IsOfLeader, LeaderLine, JobHolds, LineHolds, Sound, acked}
 use Rattle.replication_laws.proofs.Takings.{both_are, eq_is, eq_made}
@@ -167,7 +167,7 @@ pub data CoordinatorTook (e l : ℕ) (c : CoordinatorState) (x from : ℕ) (h : 
 clash : (b : Bool) → b ≡ true → b ≡ false → ⊥
 clash b t f = cc (t, f)
 
-coordinator_took : (e l x from : ℕ) (u : Tail) (c : CoordinatorState) → c.phase ≡ Running l → c.epoch ≡ e → c.job ≡ None → CoordinatorTook e l c x from (stopped x from u c)
+pub coordinator_took : (e l x from : ℕ) (u : Tail) (c : CoordinatorState) → c.phase ≡ Running l → c.epoch ≡ e → c.job ≡ None → CoordinatorTook e l c x from (stopped x from u c)
 coordinator_took e l x from u c phase epoch idle =
     subst (λ (j : Option ℕ). CoordinatorTook e l c x from (stopped_by j x from u c)) (sym idle)
     (either (CoordinatorTook e l c x from) (not (is_another c.members 0 from)) (hears c did.Nothing) (cond (nat_lt x c.epoch) (told_before c.phase from c) (cond (x == c.epoch) (told_in_epoch c.phase from u c) (hears c did.Nothing)))
@@ -187,3 +187,135 @@ coordinator_took e l x from u c phase epoch idle =
       where
         lt_is : (a b : ℕ) → nat_lt a b ≡ true → a < b
         lt_is a b h = grind arith
+
+same_number : (n : ℕ) → (n == n) ≡ true
+same_number n = eq_made n n refl
+
+to_follow : (e l k : ℕ) → k ≢ l → open_or_follow e l k ≡ mail k (messages.Follow e l)
+to_follow e l k ne = elim (cases_Bool (k == l)) [
+  | inl y ↦ absurd (ne (eq_is k l y))
+  | inr n ↦ ap (λ (b : Bool). mail k (cond b (messages.Open e) (messages.Follow e l))) n
+]
+
+-- a message that isn't Stopped changes nothing but that it was delivered
+pub quiet_delivers : (g : Tree) (w : ClusterState) (o n e l low : ℕ) (s : Sent) → HasTokens w e l low → letter_in n w.mail ≡ Some s → s.to ≡ 0 → ((k : ℕ) (x : Tail) → s.message ≡ messages.Stopped e k x → ⊥)
+    → HasTokens (record w { mail = marked n w.mail }) e l low
+quiet_delivers g w o n e l low s h is to other = record {
+  runs = (let r = h.runs in record { coordinator_up = r.coordinator_up; phase = r.phase; epoch_is = r.epoch_is; idle = r.idle; is_member = r.is_member; leader_up = r.leader_up; promised = r.promised });
+  leads = leader h.leads;
+  low_given = h.low_given;
+  each = λ k mk nl u p. others_on w w' e l low k (member w k)
+      (λ x role way. Tells x role (pass (Behind 0) (mail 0 (messages.Stopped e k x)) (λ z. other k x (ap (λ (y : Sent). y.message) z)) way))
+      (λ msg way. pass (Behind 0) (mail k msg) (to_else k msg mk.0) way)
+      (λ role way. Asks role (pass (Behind low) (mail l (messages.Ask e k (tail_of (member w k).log))) (to_else l (messages.Ask e k (tail_of (member w k).log)) h.runs.is_member.0) way))
+      (λ d role lr lj le. In_step d role lr lj le)
+      (h.each k mk nl u p);
+}
+  where
+    w' : ClusterState
+    w' = record w { mail = marked n w.mail }
+
+    pass : (At : ℕ → Type 0) (x : Sent) → (s ≡ x → ⊥) → OnItsWay At x w.mail → OnItsWay At x w'.mail
+    pass At x ne way = way_marked At n x s w.mail is (λ at. ne) way
+
+    to_else : (k : ℕ) (msg : Message) → 0 < k → s ≡ mail k msg → ⊥
+    to_else k msg pos eq = let z : k ≡ 0 = sym (ap (λ (x : Sent). x.to) eq) ∙ to in omega (arith, z, pos)
+
+    leader : LeaderToken w e l low → LeaderToken w' e l low
+    leader (Leads d role) = Leads d role
+    leader (Is_to_open role way) = Is_to_open role (pass (Exactly low) (mail l (messages.Open e)) (to_else l (messages.Open e) h.runs.is_member.0) way)
+
+pub stopped_delivers : (g : Tree) (w : ClusterState) (o n e l low x from : ℕ) (u : Tail) (s : Sent) → Sound g o w → HasTokens w e l low → letter_in n w.mail ≡ Some s → s.to ≡ 0 → s.message ≡ messages.Stopped x from u
+    → (to_coordinator (messages.Stopped x from u) (record w { mail = marked n w.mail })).last < last_number
+    → HasTokens (to_coordinator (messages.Stopped x from u) (record w { mail = marked n w.mail })) e l low
+stopped_delivers g w o n e l low x from u s so h is to msg room = go (coordinator_took e l x from u w.coordinator h.runs.phase h.runs.epoch_is h.runs.idle)
+  where
+    hs : Hears
+    hs = stopped x from u w.coordinator
+
+    w' : ClusterState
+    w' = to_coordinator (messages.Stopped x from u) (record w { mail = marked n w.mail })
+
+    sent : List Sent
+    sent = opened hs.state hs.answer
+
+    pass : (At : ℕ → Type 0) (y : Sent) → (s ≡ y → ⊥) → OnItsWay At y w.mail → OnItsWay At y w'.mail
+    pass At y ne way = way_more At y (marked n w.mail) (numbered w.last sent) (way_marked At n y s w.mail is (λ at. ne) way)
+
+    fresh : (y : Sent) → IsOf y sent → OnItsWay (Behind 0) y w'.mail
+    fresh y of = way_behind (Behind 0) y (marked n w.mail) (numbered w.last sent) (way_sent (Behind 0) y w.last sent (λ i z. omega (arith, z)) room of)
+
+    to_else : (k : ℕ) (m : Message) → 0 < k → s ≡ mail k m → ⊥
+    to_else k m pos eq = let z : k ≡ 0 = sym (ap (λ (y : Sent). y.to) eq) ∙ to in omega (arith, z, pos)
+
+    leader : LeaderToken w e l low → LeaderToken w' e l low
+    leader (Leads d role) = Leads d role
+    leader (Is_to_open role way) = Is_to_open role (pass (Exactly low) (mail l (messages.Open e)) (to_else l (messages.Open e) h.runs.is_member.0) way)
+
+    with_tells : hs.state.phase ≡ w.coordinator.phase → hs.state.epoch ≡ w.coordinator.epoch → hs.state.job ≡ w.coordinator.job
+        → ((k : ℕ) → IsMember w k → k ≢ l → (y : Tail) → (member w k).role ≡ Stopped → OnItsWay (Behind 0) (mail 0 (messages.Stopped e k y)) w.mail → Token w' e l low k (member w k)) → HasTokens w' e l low
+    with_tells ph ep jb tells = record {
+      runs = (let r = h.runs in record { coordinator_up = r.coordinator_up; phase = ph ∙ r.phase; epoch_is = ep ∙ r.epoch_is; idle = jb ∙ r.idle; is_member = r.is_member; leader_up = r.leader_up; promised = r.promised });
+      leads = leader h.leads;
+      low_given = (let z = h.low_given in omega (arith, z));
+      each = λ k mk nl up p. others_on w w' e l low k (member w k)
+          (λ y role way. tells k mk nl y role way)
+          (λ m way. pass (Behind 0) (mail k m) (to_else k m mk.0) way)
+          (λ role way. Asks role (pass (Behind low) (mail l (messages.Ask e k (tail_of (member w k).log))) (to_else l (messages.Ask e k (tail_of (member w k).log)) h.runs.is_member.0) way))
+          (λ d role lr lj le. In_step d role lr lj le)
+          (h.each k mk nl up p);
+    }
+
+    named : (k : ℕ) → IsMember w k → is_another w.coordinator.members 0 k ≡ true
+    named k mk = another_is w.coordinator.members 0 k mk.0 (let c = so.coordinator.count in let z = mk.1 in omega (arith, c, z)) (λ z. (let y = mk.0 in omega (arith, y, z)))
+
+    go : CoordinatorTook e l w.coordinator x from hs → HasTokens w' e l low
+    go (Passes ph ep jb none) =
+        with_tells ph ep jb (λ k mk nl y role way. Tells y role (pass (Behind 0) (mail 0 (messages.Stopped e k y))
+        (λ z. (let same : messages.Stopped x from u ≡ messages.Stopped e k y = sym msg ∙ ap (λ (q : Sent). q.message) z in let xe : x ≡ e = cc same in let fk : from ≡ k = cc same in
+          none (subst (λ (i : ℕ). is_another w.coordinator.members 0 i ≡ true) (sym fk) (named k mk)) xe)) way))
+    go (Tells_back ph ep jb of) =
+        with_tells ph ep jb (λ k mk nl y role way. elim (cases_eq from k) [
+          | inr ne ↦ Tells y role (pass (Behind 0) (mail 0 (messages.Stopped e k y))
+              (λ z. (let same : messages.Stopped x from u ≡ messages.Stopped e k y = sym msg ∙ ap (λ (q : Sent). q.message) z in let fk : from ≡ k = cc same in ne fk)) way)
+          | inl fk ↦ Is_told role (fresh (mail k (messages.Follow e l)) (subst (λ (q : Sent). IsOf q sent) (ap (λ (i : ℕ). open_or_follow e l i) fk ∙ to_follow e l k nl) of))
+        ])
+
+-- ---- a leader that can't open stays so
+
+pub stuck_took : (w : ClusterState) (e l j : ℕ) (t : Took) → IsStuck w e l → IsMember w j → (j ≡ l → t.state ≡ member w l) → IsStuck (took j t w) e l
+stuck_took w e l j t h lt same = record {
+  runs = runs_on w e l j t h.runs lt (λ eq. ap (λ (m : MemberState). m.promise) (same eq) ∙ h.runs.promised);
+  stopped = ap (λ (m : MemberState). m.role) leader ∙ h.stopped;
+  cannot = subst (λ (m : MemberState). can_open e m.log ≡ false) (sym leader) h.cannot;
+}
+  where
+    leader : member (took j t w) l ≡ member w l
+    leader = elim (cases_eq l j) [
+      | inl eq ↦ subst (λ (x : ℕ). member (took j t w) x ≡ member w l) (sym eq) (member_is w j t lt ∙ same (sym eq))
+      | inr ne ↦ member_same w j l t ne
+    ]
+
+pub stuck_mail : (w w' : ClusterState) (e l : ℕ) → IsStuck w e l → w'.seats ≡ w.seats → w'.coordinator_up ≡ w.coordinator_up → w'.coordinator.phase ≡ w.coordinator.phase → w'.coordinator.epoch ≡ w.coordinator.epoch
+    → w'.coordinator.job ≡ w.coordinator.job → IsStuck w' e l
+stuck_mail w w' e l h se up ph ep jb = record {
+  runs = (let r = h.runs in record {
+    coordinator_up = up ∙ r.coordinator_up;
+    phase = ph ∙ r.phase;
+    epoch_is = ep ∙ r.epoch_is;
+    idle = jb ∙ r.idle;
+    is_member = (r.is_member.0, (let z = r.is_member.1 in let c = ap length se in omega (arith, z, c)));
+    leader_up = ap (λ (ss : List Seat). (seat_in ss l).up) se ∙ r.leader_up;
+    promised = ap (λ (ss : List Seat). (seat_in ss l).state.promise) se ∙ r.promised;
+  });
+  stopped = ap (λ (ss : List Seat). (seat_in ss l).state.role) se ∙ h.stopped;
+  cannot = subst (λ (ss : List Seat). can_open e (seat_in ss l).state.log ≡ false) (sym se) h.cannot;
+}
+
+pub stuck_heard : (now e : ℕ) (msg : Message) (m : MemberState) → FairToLeader e msg → m.promise ≡ e → m.role ≡ Stopped → can_open e m.log ≡ false → (taken now msg m).state ≡ m
+stuck_heard now e msg m fair p role cannot = go (opener_taken now e msg m fair p role)
+  where
+    go : OpenerTook e m msg (taken now msg m) → (taken now msg m).state ≡ m
+    go (Waits_on eq z) = eq
+    go (Opens d r q can) = absurd (clash (can_open e m.log) can cannot)
+    go (Cannot eq z) = eq
