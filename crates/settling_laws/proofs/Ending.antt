@@ -74,7 +74,7 @@ own_job o w k s j e = go j (subst (JobHolds s.tree w k (member w k).promise (mem
     go (Promise epoch) h = tt
     go (Epoch epoch) h = h
 
-is_job : (o : Option Job) → is_some o ≡ true → (j : Job) × (o ≡ Some j)
+pub is_job : (o : Option Job) → is_some o ≡ true → (j : Job) × (o ≡ Some j)
 is_job None h = absurd (cc h)
 is_job (Some j) h = (j, refl)
 
@@ -351,7 +351,7 @@ nearer o now n t x r step = go step (at_step o now t x r.at step)
         (next_past t.cluster n number r.past next) (let y = d.reached in let z = r.at.order.fits in omega (arith, y, z))
     go (Forget l none next e) h = The_rest (stage_is Rest (record t.cluster { mail = []; last = 0 }) e)
 
-at_rest : (now : ℕ) (t x : Turn) → t.stage ≡ Rest → SettleStep now t x → ⊥
+pub at_rest : (now : ℕ) (t x : Turn) → t.stage ≡ Rest → SettleStep now t x → ⊥
 at_rest now t x r (Perform k a s next e) = cc (r, s)
 at_rest now t x r (Nudge s next e) = cc (r, s)
 at_rest now t x r (Follow_up k a s next e) = cc (r, s)

@@ -45,7 +45,7 @@ to_apart reigns (messages.Shape epoch runs) w = ([], refl)
 to_apart reigns (messages.Ask epoch from tail) w = ([], refl)
 to_apart reigns (messages.Append epoch previous chunk) w = ([], refl)
 
-comes_apart : (reigns : List Reign) (now k : ℕ) (message : Message) (w : ClusterState) → Apart reigns (comes now k message (with_reigns reigns w)) (comes now k message w)
+pub comes_apart : (reigns : List Reign) (now k : ℕ) (message : Message) (w : ClusterState) → Apart reigns (comes now k message (with_reigns reigns w)) (comes now k message w)
 comes_apart reigns now zero message w = to_apart reigns message w
 comes_apart reigns now (suc i) message w = ([], refl)
 
@@ -53,7 +53,7 @@ begins_apart : (reigns : List Reign) (job : Option ℕ) (w : ClusterState) → b
 begins_apart reigns None w = refl
 begins_apart reigns (Some epoch) w = refl
 
-performed_apart : (reigns : List Reign) (k : ℕ) (w : ClusterState) → performed k (with_reigns reigns w) ≡ with_reigns reigns (bare (performed k w))
+pub performed_apart : (reigns : List Reign) (k : ℕ) (w : ClusterState) → performed k (with_reigns reigns w) ≡ with_reigns reigns (bare (performed k w))
 performed_apart reigns zero w = begins_apart reigns w.coordinator.job w
 performed_apart reigns (suc i) w = refl
 
@@ -65,7 +65,7 @@ up_with : (reigns : List Reign) (w : ClusterState) (k : ℕ) → IsUp w k → Is
 up_with reigns w zero u = u
 up_with reigns w (suc i) u = u
 
-free_with : (reigns : List Reign) (w : ClusterState) (k : ℕ) → IsFree w k → IsFree (with_reigns reigns w) k
+pub free_with : (reigns : List Reign) (w : ClusterState) (k : ℕ) → IsFree w k → IsFree (with_reigns reigns w) k
 free_with reigns w zero u = u
 free_with reigns w (suc i) u = u
 

@@ -9,3 +9,5 @@ pub mod Heard
 pub mod Bringing
 pub mod Leading
 pub mod Working
+pub mod Resting
+pub mod Completing

@@ -1,3 +1,4 @@
 pub mod Settling
 pub mod Measures
 pub mod Tokens
+pub mod Clean
