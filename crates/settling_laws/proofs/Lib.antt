@@ -11,3 +11,5 @@ pub mod Leading
 pub mod Working
 pub mod Resting
 pub mod Completing
+pub mod Nudging
+pub mod Refused

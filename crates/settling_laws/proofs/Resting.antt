@@ -9,7 +9,6 @@ use Rattle.chunk_format.specs.Logs.{GoesOn, end_of, last_epoch, IsLog}
 use Rattle.chunk_format.proofs.LinkLaws.{end_push, epoch_push}
 use Rattle.epoch_coordinator.specs.declared.message.Message.TheVariants as messages
 use Rattle.epoch_coordinator.specs.declared.message.Job.{Job}
-use Rattle.epoch_coordinator.specs.declared.coordinator.Phase.TheVariants.{Running}
 use Rattle.epoch_coordinator.specs.Tails.{tail_of}
 use Rattle.epoch_coordinator.specs.Members.{Leading, MemberRole, MemberState, Stopped, Follower, Leader, job_chunks, role_chunks, sequence_of}
 use Rattle.epoch_coordinator.specs.MemberSteps.{mail, reaching, is_majority, majority_has, commit_from, commit_by, commit_end}
@@ -17,10 +16,11 @@ use Rattle.replication_laws.specs.Majorities.{votes, IsMajority, is_voter}
 use Rattle.replication_laws.specs.Cluster.{Seat, ClusterState, seat, member, IsMember, durable, is_opened, RunsWith}
 use Rattle.replication_laws.specs.Confirms.{Stands, Awaits}
 use Rattle.replication_laws.specs.Soundness as laws
-use Rattle.replication_laws.specs.Soundness.{Tree, LeaderLine, LineHolds, LeaderHolds, RoleHolds, LeadsEpoch, Sound, acked, IsCommitted}
+use Rattle.replication_laws.specs.Soundness.{Tree, LeaderLine, LineHolds, LeaderHolds, RoleHolds, LeadsEpoch, Sound, IsSound, acked, IsCommitted}
 use Rattle.replication_laws.proofs.Logs.{Ending, Is_empty, Ends_with, ending, front_end}
 use Rattle.replication_laws.proofs.Takings.{eq_made}
-use Rattle.replication_laws.proofs.Joined.{open_log, committed_begins}
+use Rattle.replication_laws.proofs.Joined.{open_log}
+use Rattle.replication_laws.proofs.Claims.{open_sequence_log}
 use Rattle.settling_laws.specs.Settling.{is_up, next_job, next_letter}
 use Rattle.settling_laws.specs.Tokens.{OnItsWay, Behind, Exactly, Token, Tells, Is_told, Asks, Gets, Is_shaped, Works, In_step, LeaderToken, Leads, Is_to_open, Running_by, HasTokens}
 use Rattle.settling_laws.specs.Clean.{HasMost, IsComplete}
@@ -177,12 +177,12 @@ complete g w o e l s reached begins runs f most = record { committed_all = all; 
         ap (λ (j : Option Job). m.log ++ (job_chunks j ++ role_chunks m.role)) f.job ∙ (ap (λ (r : MemberRole). m.log ++ ([] ++ role_chunks r)) f.role ∙ (ap (λ (l : List Chunk). m.log ++ l) q ∙ append-nil m.log))
 
 -- so no claim waits
-pub none_waits : (Says : List Chunk → Type 0) (w : ClusterState) (l epoch end : ℕ) → IsLog (sequence_of (member w l)) → IsComplete w l → w.coordinator.phase ≡ Running l → Awaits Says epoch end w → ⊥
-none_waits Says w l epoch end is c phase a =
-    let lead : a.leader ≡ l = (let z = sym a.runs.phase ∙ phase in cc z) in
+pub none_waits : (Says : List Chunk → Type 0) (o e l end : ℕ) (w : ClusterState) → IsSound o w → RunsWith w e l → IsComplete w l → Awaits Says e end w → ⊥
+none_waits Says o e l end w s runs c a =
+    let lead : a.leader ≡ l = (let z = sym a.runs.phase ∙ runs.phase in cc z) in
     let begins : GoesOn a.stands.front (sequence_of (member w l)) = subst (GoesOn a.stands.front) (ap (λ (k : ℕ). sequence_of (member w k)) lead) a.stands.begins in
-    let b = front_end a.stands.front (sequence_of (member w l)) begins is in
-    let e = a.stands.end_is in
+    let b = front_end a.stands.front (sequence_of (member w l)) begins (open_sequence_log o e l w s runs) in
+    let at = a.stands.end_is in
     let p = a.past in
     let n = c.nothing_behind in
-    omega (arith, b, e, p, n)
+    omega (arith, b, at, p, n)

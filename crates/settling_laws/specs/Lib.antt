@@ -2,3 +2,4 @@ pub mod Settling
 pub mod Measures
 pub mod Tokens
 pub mod Clean
+pub mod Literals

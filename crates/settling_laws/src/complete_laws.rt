@@ -1,0 +1,33 @@
+//! What a settle brings about.
+
+ghost use Rattle.std.specs.Prelude.{◌≡◌, ℕ, List, [], None};
+ghost use Rattle.chunk_format.specs.declared.chunk.Chunk.{Chunk};
+ghost use Rattle.chunk_format.specs.Logs.{Truthful};
+ghost use Rattle.replication_laws.specs.Cluster.{Reign, ClusterState, RunsWith};
+ghost use Rattle.replication_laws.specs.Confirms.{Awaits};
+ghost use Rattle.replication_laws.specs.Properties.{SoundWith};
+ghost use Rattle.replication_laws.specs.Soundness.{IsSound};
+ghost use Rattle.settling_laws.specs.Settling.{Jobs, Rest, turn, Settles, next_job, with_reigns};
+ghost use Rattle.settling_laws.specs.Measures.{IsInOrder};
+ghost use Rattle.settling_laws.specs.Tokens.{Running_by};
+ghost use Rattle.settling_laws.specs.Clean.{SettlesCleanly, IsLed, HasMost, IsComplete};
+
+use replication_laws::Claim;
+
+/// A settle leaves no message and no job, and the next message has the number 1. It does nothing.
+pub fn a_settle_leaves_nothing()
+    ensures { (now : ℕ) (w w' : ClusterState) → Settles now w w' → (w'.mail ≡ []) × (w'.last ≡ 0) × (next_job w' ≡ None) }
+{}
+
+/// A settle of a running epoch whose leader leads, also one that writes its first chunk, or is stopped with its Open on
+/// the way: where no job is answered by a fault and numbers last, and where behind it the epoch runs with its open leader,
+/// which more than half of the members promised and are up, all is committed that the leader has. It does nothing.
+pub fn a_settle_completes()
+    ensures { (opened now epoch leader : ℕ) (reigns : List Reign) (w w' : ClusterState) → SoundWith Truthful opened (with_reigns reigns w) → IsInOrder w → Running_by w epoch leader → IsLed w epoch leader
+        → SettlesCleanly now (turn Jobs w) (turn Rest w') → RunsWith w' epoch leader → HasMost w' epoch → IsComplete w' leader }
+{}
+
+/// Where all is committed that the leader has, no claim waits. It does nothing.
+pub fn no_claim_waits<C: Claim>()
+    ensures { (opened epoch leader end : ℕ) (w : ClusterState) → IsSound opened w → RunsWith w epoch leader → IsComplete w leader → Awaits C.says epoch end w → ⊥ }
+{}
