@@ -40,10 +40,10 @@ use Rattle.settling_laws.proofs.Resting.{up_by, followed, complete}
 
 -- ---- a delivery, to whomever
 
-abbrev Brought : ClusterState → ℕ → ℕ → ℕ → Type 0
+abbrev pub Brought : ClusterState → ℕ → ℕ → ℕ → Type 0
 Brought w e l low = HasTokens w e l low ⊎ IsStuck w e l
 
-runs_of : (w : ClusterState) (e l low : ℕ) → Brought w e l low → Running_by w e l
+pub runs_of : (w : ClusterState) (e l low : ℕ) → Brought w e l low → Running_by w e l
 runs_of w e l low (inl h) = h.runs
 runs_of w e l low (inr h) = h.runs
 
@@ -161,11 +161,11 @@ went o e l low now t x h step stage more w' same event brought = record {
 }
 
 -- one step more, or the rest
-data Onward (o e l low : ℕ) (t x : Turn) : Type 0 where
+pub data Onward (o e l low : ℕ) (t x : Turn) : Type 0 where
   Goes : Going o e l low x → Onward o e l low t x
   Ends : next_job t.cluster ≡ None → next_letter t.cluster ≡ None → x ≡ turn Rest (record t.cluster { mail = []; last = 0 }) → Onward o e l low t x
 
-onward : (o e l low now : ℕ) (t x : Turn) → Going o e l low t → CleanStep now t x → Onward o e l low t x
+pub onward : (o e l low now : ℕ) (t x : Turn) → Going o e l low t → CleanStep now t x → Onward o e l low t x
 onward o e l low now t x h c = go c.step c.performed
   where
     w : ClusterState

@@ -13,3 +13,5 @@ pub mod Resting
 pub mod Completing
 pub mod Nudging
 pub mod Refused
+pub mod Electing
+pub mod Voting

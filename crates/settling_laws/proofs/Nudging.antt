@@ -100,7 +100,7 @@ nudge_of [] i s lt up of = absurd (omega (arith, lt))
 nudge_of (x ∷ seats) zero s lt up of = of_more s (nudges_by x.up (nudged x.state)) (member_nudges seats) (subst (λ (b : Bool). IsOf s (nudges_by b (nudged x.state))) (sym up) of)
 nudge_of (x ∷ seats) (suc i) s lt up of = of_behind s (nudges_by x.up (nudged x.state)) (member_nudges seats) (nudge_of seats i s (omega (arith, lt)) up of)
 
-nudged_is : (w : ClusterState) (k : ℕ) (s : Sent) → IsMember w k → (seat w k).up ≡ true → IsOf s (nudged (member w k)) → IsOf s (nudges w)
+pub nudged_is : (w : ClusterState) (k : ℕ) (s : Sent) → IsMember w k → (seat w k).up ≡ true → IsOf s (nudged (member w k)) → IsOf s (nudges w)
 nudged_is w zero s mk up of = absurd (omega (arith, mk.0))
 nudged_is w (suc i) s mk up of =
     of_behind s (nudges_by w.coordinator_up (coordinators.nudged w.coordinator)) (member_nudges w.seats) (nudge_of w.seats i s (omega (arith, mk.1)) up of)

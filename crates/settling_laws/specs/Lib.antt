@@ -3,3 +3,4 @@ pub mod Measures
 pub mod Tokens
 pub mod Clean
 pub mod Literals
+pub mod Electing

@@ -10,6 +10,7 @@ ghost use Rattle.replication_laws.specs.Soundness.{IsSound};
 ghost use Rattle.settling_laws.specs.Settling.{Jobs, Rest, turn, Settles, next_job, with_reigns};
 ghost use Rattle.settling_laws.specs.Measures.{IsInOrder};
 ghost use Rattle.settling_laws.specs.Tokens.{Running_by};
+ghost use Rattle.settling_laws.specs.Electing.{Elects_next};
 ghost use Rattle.settling_laws.specs.Clean.{SettlesCleanly, IsLed, HasMost, IsComplete};
 
 use replication_laws::Claim;
@@ -20,10 +21,13 @@ pub fn a_settle_leaves_nothing()
 {}
 
 /// A settle of a running epoch whose leader leads, also one that writes its first chunk, or is stopped with its Open on
-/// the way: where no job is answered by a fault and numbers last, and where behind it the epoch runs with its open leader,
-/// which more than half of the members promised and are up, all is committed that the leader has. It does nothing.
+/// the way; and one that elects an epoch or is to make it durable: where no job is answered by a fault and numbers last,
+/// and where behind it the epoch runs with its open leader, which more than half of the members promised and are up, all
+/// is committed that the leader has. It does nothing.
 pub fn a_settle_completes()
-    ensures { (opened now epoch leader : ℕ) (reigns : List Reign) (w w' : ClusterState) → SoundWith Truthful opened (with_reigns reigns w) → IsInOrder w → Running_by w epoch leader → IsLed w epoch leader
+    ensures running { (opened now epoch leader : ℕ) (reigns : List Reign) (w w' : ClusterState) → SoundWith Truthful opened (with_reigns reigns w) → IsInOrder w → Running_by w epoch leader → IsLed w epoch leader
+        → SettlesCleanly now (turn Jobs w) (turn Rest w') → RunsWith w' epoch leader → HasMost w' epoch → IsComplete w' leader }
+    ensures electing { (opened now epoch leader : ℕ) (reigns : List Reign) (w w' : ClusterState) → SoundWith Truthful opened (with_reigns reigns w) → IsInOrder w → Elects_next w epoch
         → SettlesCleanly now (turn Jobs w) (turn Rest w') → RunsWith w' epoch leader → HasMost w' epoch → IsComplete w' leader }
 {}
 
