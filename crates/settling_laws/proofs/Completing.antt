@@ -126,7 +126,7 @@ works g w o e l low k so next room h = go k (job_of w k next) room
     by : (i : ℕ) → IsMember w (suc i) → (seat w (suc i)).up ≡ true → (j : Job) → (member w (suc i)).job ≡ Some j → (performed (suc i) w).last < last_number → Brought w e l low → Brought (performed (suc i) w) e l low
     by i mk up j jj room (inl t) = inl (job_done g w o e l low (suc i) j so t mk up jj room)
     by i mk up j jj room (inr t) = inr (stuck_took w e l (suc i) (finished (member w (suc i))) t mk (λ eq. absurd (let idle = stopped_idle g w o e l l so runs runs.leader_up runs.promised t.stopped in
-      let z : Some j ≡ None = sym jj ∙ (ap (λ (x : ℕ). (member w x).job) eq ∙ idle) in cc z)))
+        let z : Some j ≡ None = sym jj ∙ (ap (λ (x : ℕ). (member w x).job) eq ∙ idle) in cc z)))
 
     go : (k : ℕ) → JobOf w k → (performed k w).last < last_number → Brought (performed k w) e l low
     go k (Of_coordinator epoch is up job) room = absurd (not_idle epoch job)
@@ -231,8 +231,8 @@ run_complete o e l low now t (x ∷ xs) w' h steps ends runs most = go (onward o
         let r = subst (λ (y : ClusterState). RunsWith y e l) (sym same) runs_b in
         let m = subst (λ (y : ClusterState). HasMost y e) (sym same) most_b in
         let c = rest_complete o e l low t h none next
-            (record { coordinated = r.coordinated; phase = r.phase; epoch_is = r.epoch_is; is_member = r.is_member; leader_up = r.leader_up; promised = r.promised; is_open = r.is_open })
-            (record { voters = m.voters; most = m.most; each = m.each }) in
+        (record { coordinated = r.coordinated; phase = r.phase; epoch_is = r.epoch_is; is_member = r.is_member; leader_up = r.leader_up; promised = r.promised; is_open = r.is_open })
+        (record { voters = m.voters; most = m.most; each = m.each }) in
         let cb : IsComplete (bare (record t.cluster { mail = []; last = 0 })) l = record { committed_all = c.committed_all; no_job = c.no_job; nothing_behind = c.nothing_behind } in
         let k = subst (λ (y : ClusterState). IsComplete y l) same cb in
         record { committed_all = k.committed_all; no_job = k.no_job; nothing_behind = k.nothing_behind }

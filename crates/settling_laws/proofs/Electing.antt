@@ -92,7 +92,7 @@ follow_of e l first (x ∷ xs) zero is ne =
 follow_of e l first (x ∷ xs) (suc i) is ne =
     let at : first + 1 + i ≡ first + suc i = omega arith in
     let rest : IsOf (mail (first + suc i) (messages.Follow e l)) (to_each (messages.Follow e l) (others_from (first + 1) l xs)) =
-      subst (λ (n : ℕ). IsOf (mail n (messages.Follow e l)) (to_each (messages.Follow e l) (others_from (first + 1) l xs))) at (follow_of e l (first + 1) xs i is (λ z. ne (sym at ∙ z))) in
+    subst (λ (n : ℕ). IsOf (mail n (messages.Follow e l)) (to_each (messages.Follow e l) (others_from (first + 1) l xs))) at (follow_of e l (first + 1) xs i is (λ z. ne (sym at ∙ z))) in
     either (λ (ns : List ℕ). IsOf (mail (first + suc i) (messages.Follow e l)) (to_each (messages.Follow e l) ns)) (is_told x && not (first == l)) (first ∷ others_from (first + 1) l xs) (others_from (first + 1) l xs)
     (λ y. inr rest) (λ n. rest)
 
@@ -108,16 +108,16 @@ elect_took : (e x from : ℕ) (u : Tail) (c : CoordinatorState) → c.phase ≡ 
 elect_took e x from u c phase epoch idle =
     subst (λ (j : Option ℕ). ElectTook e c x from u (stopped_by j x from u c)) (sym idle)
     (either (ElectTook e c x from u) (not (is_another c.members 0 from)) (hears c did.Nothing) (cond (nat_lt x c.epoch) (told_before c.phase from c) (cond (x == c.epoch) (told_in_epoch c.phase from u c) (hears c did.Nothing)))
-      (λ n. Passes_by refl (λ y z. clash_not (is_another c.members 0 from) y n))
-      (λ f. either (ElectTook e c x from u) (nat_lt x c.epoch) (told_before c.phase from c) (cond (x == c.epoch) (told_in_epoch c.phase from u c) (hears c did.Nothing))
-        (λ lt. subst (λ (p : Phase). ElectTook e c x from u (told_before p from c)) (sym phase) (Passes_by refl (λ y z. less x c.epoch lt (z ∙ sym epoch))))
-        (λ nlt. either (ElectTook e c x from u) (x == c.epoch) (told_in_epoch c.phase from u c) (hears c did.Nothing)
-          (λ same. subst (λ (p : Phase). ElectTook e c x from u (told_in_epoch p from u c)) (sym phase)
-            (either (ElectTook e c x from u) (is_majority c.members (repliers (tell from u c.told)))
-              (hears (record c { told = tell from u c.told; phase = Running (leader_of (tell from u c.told)) }) (did.Opened c.epoch (leader_of (tell from u c.told)) (electors_of (tell from u c.told))))
-              (hears (record c { told = tell from u c.told }) did.Nothing)
-              (λ y. Opens_epoch refl (named (is_another c.members 0 from) f)) (λ n. Counts_on refl (named (is_another c.members 0 from) f))))
-          (λ ne. Passes_by refl (λ y z. clash (x == c.epoch) (eq_made x c.epoch (z ∙ sym epoch)) ne)))))
+    (λ n. Passes_by refl (λ y z. clash_not (is_another c.members 0 from) y n))
+    (λ f. either (ElectTook e c x from u) (nat_lt x c.epoch) (told_before c.phase from c) (cond (x == c.epoch) (told_in_epoch c.phase from u c) (hears c did.Nothing))
+    (λ lt. subst (λ (p : Phase). ElectTook e c x from u (told_before p from c)) (sym phase) (Passes_by refl (λ y z. less x c.epoch lt (z ∙ sym epoch))))
+    (λ nlt. either (ElectTook e c x from u) (x == c.epoch) (told_in_epoch c.phase from u c) (hears c did.Nothing)
+    (λ same. subst (λ (p : Phase). ElectTook e c x from u (told_in_epoch p from u c)) (sym phase)
+    (either (ElectTook e c x from u) (is_majority c.members (repliers (tell from u c.told)))
+    (hears (record c { told = tell from u c.told; phase = Running (leader_of (tell from u c.told)) }) (did.Opened c.epoch (leader_of (tell from u c.told)) (electors_of (tell from u c.told))))
+    (hears (record c { told = tell from u c.told }) did.Nothing)
+    (λ y. Opens_epoch refl (named (is_another c.members 0 from) f)) (λ n. Counts_on refl (named (is_another c.members 0 from) f))))
+    (λ ne. Passes_by refl (λ y z. clash (x == c.epoch) (eq_made x c.epoch (z ∙ sym epoch)) ne)))))
   where
     clash : (b : Bool) → b ≡ true → b ≡ false → ⊥
     clash b t f = cc (t, f)
@@ -212,8 +212,11 @@ word_comes g g' w o n e x from u s so h is to msg room so' = go (elect_took e x 
       elects = record { coordinator_up = h.elects.coordinator_up; phase = ap (λ (c : CoordinatorState). c.phase) st ∙ h.elects.phase; epoch_is = ap (λ (c : CoordinatorState). c.epoch) st ∙ h.elects.epoch_is; idle = ap (λ (c : CoordinatorState). c.job) st ∙ h.elects.idle };
       each = λ i lt up p. elim (h.each i lt up p) [
         | inl t ↦ inl (ap (λ (c : CoordinatorState). is_told (slice_index_or c.told i None)) st ∙ t)
-        | inr way ↦ inr (way.0, pass (Behind 0) (mail 0 (messages.Stopped e (suc i) way.0))
-            (λ z. (let f = same_word (suc i) way.0 z in none (subst (λ (q : ℕ). is_another w.coordinator.members 0 q ≡ true) (sym f.1) (named (suc i) (omega arith, omega (arith, lt)))) f.0)) way.1)
+        | inr way ↦ inr (
+          way.0,
+          pass (Behind 0) (mail 0 (messages.Stopped e (suc i) way.0))
+              (λ z. (let f = same_word (suc i) way.0 z in none (subst (λ (q : ℕ). is_another w.coordinator.members 0 q ≡ true) (sym f.1) (named (suc i) (omega arith, omega (arith, lt)))) f.0)) way.1,
+        )
       ];
     })
     go (Counts_on st other) = Goes_on (record {
@@ -290,8 +293,8 @@ word_comes g g' w o n e x from u s so h is to msg room so' = go (elect_took e x 
             first r =
                 way_behind (Exactly (w.last + 1)) (mail l (messages.Open e)) (marked n w.mail) (numbered w.last (opening w.coordinator.epoch l told))
                 (subst (λ (b : Bool). OnItsWay (Exactly (w.last + 1)) (mail l (messages.Open e)) (cond b (record { number = w.last + 1; delivered = false; sent = mail l (messages.Open w.coordinator.epoch) } ∷ numbered (w.last + 1) (to_each (messages.Follow w.coordinator.epoch l) (others_from 1 l told))) []))
-                  (sym (some (to_each (messages.Follow w.coordinator.epoch l) (others_from 1 l told)) (mail l (messages.Open w.coordinator.epoch)) r))
-                  (inl (refl, refl, ap (λ (q : ℕ). mail l (messages.Open q)) h.elects.epoch_is)))
+                (sym (some (to_each (messages.Follow w.coordinator.epoch l) (others_from 1 l told)) (mail l (messages.Open w.coordinator.epoch)) r))
+                (inl (refl, refl, ap (λ (q : ℕ). mail l (messages.Open q)) h.elects.epoch_is)))
 
             given : w.last + 1 ≤ w'.last
             given = subst (λ (xs : List Sent). w.last + length (numbered w.last xs) < last_number → w.last + 1 ≤ w.last + length (numbered w.last xs)) (sym sent_is)

@@ -77,12 +77,12 @@ stopped_taken now e l (messages.Open x) m fair p role other =
 stopped_taken now e l (messages.Follow x f) m fair p role other =
     either (StoppedTook e l m (messages.Follow x f)) (is_another m.members m.number f && ((x == m.promise) || false)) (after_follow f m) (silent m)
     (λ t. let b = both_are (is_another m.members m.number f) ((x == m.promise) || false) t in
-      let same : f ≡ l = fair (own x m.promise b.1 ∙ p) in
-      either (StoppedTook e l m (messages.Follow x f)) (is_stopped m.role) (asks f (record m { role = Follower f })) (silent m)
-      (λ y. Goes_on (ap (λ (n : ℕ). asks n (record m { role = Follower n })) same))
-      (λ n. absurd (clash (is_stopped m.role) (ap is_stopped role) n)))
+    let same : f ≡ l = fair (own x m.promise b.1 ∙ p) in
+    either (StoppedTook e l m (messages.Follow x f)) (is_stopped m.role) (asks f (record m { role = Follower f })) (silent m)
+    (λ y. Goes_on (ap (λ (n : ℕ). asks n (record m { role = Follower n })) same))
+    (λ n. absurd (clash (is_stopped m.role) (ap is_stopped role) n)))
     (λ n. Still refl (λ z. (let xe : x ≡ e = cc z in let fl : f ≡ l = cc z in
-      clash (is_another m.members m.number f && ((x == m.promise) || false)) (heard_test x m.promise (is_another m.members m.number f) (subst (λ (i : ℕ). is_another m.members m.number i ≡ true) (sym fl) other) (xe ∙ sym p)) n)))
+    clash (is_another m.members m.number f && ((x == m.promise) || false)) (heard_test x m.promise (is_another m.members m.number f) (subst (λ (i : ℕ). is_another m.members m.number i ≡ true) (sym fl) other) (xe ∙ sym p)) n)))
 stopped_taken now e l (messages.Shape x runs) m fair p role other =
     either (StoppedTook e l m (messages.Shape x runs)) ((x == m.promise) || false) (after_shape m.role runs m) (silent m)
     (λ t. subst (λ (r : MemberRole). StoppedTook e l m (messages.Shape x runs) (after_shape r runs m)) (sym role) (Still refl (λ z. cc z))) (λ f. Still refl (λ z. cc z))
@@ -118,17 +118,17 @@ follower_taken now e l (messages.Open x) m fair p role =
 follower_taken now e l (messages.Follow x f) m fair p role =
     either (FollowerTook e l m (messages.Follow x f)) (is_another m.members m.number f && ((x == m.promise) || false)) (after_follow f m) (silent m)
     (λ t. either (FollowerTook e l m (messages.Follow x f)) (is_stopped m.role) (asks f (record m { role = Follower f })) (silent m)
-      (λ y. absurd (follower_not m.role l role y))
-      (λ n. Stays refl (λ c g z. cc z) (λ r n z. cc z)))
+    (λ y. absurd (follower_not m.role l role y))
+    (λ n. Stays refl (λ c g z. cc z) (λ r n z. cc z)))
     (λ n. Stays refl (λ c g z. cc z) (λ r n z. cc z))
 follower_taken now e l (messages.Shape x runs) m fair p role =
     either (FollowerTook e l m (messages.Shape x runs)) ((x == m.promise) || false) (after_shape m.role runs m) (silent m)
     (λ t. subst (λ (r : MemberRole). FollowerTook e l m (messages.Shape x runs) (after_shape r runs m)) (sym role)
-      (either (FollowerTook e l m (messages.Shape x runs)) (ends_in m.promise m.log) (silent m) (cond (nat_lt (kept_end runs m.log) (end_of m.log)) (silent (record m { job = Some (Cut (kept_end runs m.log)) })) (asks l m))
-        (λ y. Stays refl (λ c g z. cc z) (λ r n z. clash (ends_in m.promise m.log) y (subst (λ (i : ℕ). ends_in i m.log ≡ false) (sym p) n)))
-        (λ n. either (FollowerTook e l m (messages.Shape x runs)) (nat_lt (kept_end runs m.log) (end_of m.log)) (silent (record m { job = Some (Cut (kept_end runs m.log)) })) (asks l m)
-          (λ y. Has_job (Cut (kept_end runs m.log)) refl)
-          (λ n. Asks_again refl))))
+    (either (FollowerTook e l m (messages.Shape x runs)) (ends_in m.promise m.log) (silent m) (cond (nat_lt (kept_end runs m.log) (end_of m.log)) (silent (record m { job = Some (Cut (kept_end runs m.log)) })) (asks l m))
+    (λ y. Stays refl (λ c g z. cc z) (λ r n z. clash (ends_in m.promise m.log) y (subst (λ (i : ℕ). ends_in i m.log ≡ false) (sym p) n)))
+    (λ n. either (FollowerTook e l m (messages.Shape x runs)) (nat_lt (kept_end runs m.log) (end_of m.log)) (silent (record m { job = Some (Cut (kept_end runs m.log)) })) (asks l m)
+    (λ y. Has_job (Cut (kept_end runs m.log)) refl)
+    (λ n. Asks_again refl))))
     (λ f. Stays refl (λ c g z. cc z) (λ r n z. (let xe : x ≡ e = cc z in clash ((x == m.promise) || false) (heard_test x m.promise true refl (xe ∙ sym p)) f)))
 follower_taken now e l (messages.Ask x from u) m fair p role =
     either (FollowerTook e l m (messages.Ask x from u)) (is_another m.members m.number from && ((x == m.promise) || false)) (after_ask m.role from u m) (silent m)
@@ -136,9 +136,9 @@ follower_taken now e l (messages.Ask x from u) m fair p role =
 follower_taken now e l (messages.Append x u c) m fair p role =
     either (FollowerTook e l m (messages.Append x u c)) ((x == m.promise) || false) (after_append m.role u c m) (silent m)
     (λ t. subst (λ (r : MemberRole). FollowerTook e l m (messages.Append x u c) (after_append r u c m)) (sym role)
-      (either (FollowerTook e l m (messages.Append x u c)) (goes_on m.promise u c m.log) (silent (record m { job = Some (Write c) })) (silent m)
-        (λ y. Has_job (Write c) refl)
-        (λ n. Stays refl (λ d g z. (let ue : u ≡ tail_of m.log = cc z in let ce : c ≡ d = cc z in clash (goes_on m.promise u c m.log) (rw (p, ue, ce) g) n)) (λ r n z. cc z))))
+    (either (FollowerTook e l m (messages.Append x u c)) (goes_on m.promise u c m.log) (silent (record m { job = Some (Write c) })) (silent m)
+    (λ y. Has_job (Write c) refl)
+    (λ n. Stays refl (λ d g z. (let ue : u ≡ tail_of m.log = cc z in let ce : c ≡ d = cc z in clash (goes_on m.promise u c m.log) (rw (p, ue, ce) g) n)) (λ r n z. cc z))))
     (λ f. Stays refl (λ d g z. (let xe : x ≡ e = cc z in clash ((x == m.promise) || false) (heard_test x m.promise true refl (xe ∙ sym p)) f)) (λ r n z. cc z))
 
 -- ---- the opened leader
@@ -161,9 +161,9 @@ leader_taken now e (messages.Stopped x from t) m d fair p role opened =
 leader_taken now e (messages.Open x) m d fair p role opened =
     either (LeaderTook e m d (messages.Open x)) ((x == m.promise) || false) (after_open now m) (silent m)
     (λ t. either (LeaderTook e m d (messages.Open x)) (is_stopped m.role && can_open m.promise m.log)
-      (silent (record m { role = Leader (new_leading m.members); job = Some (Write (opening_chunk m.promise (stamp_at now) m.log)) })) (silent m)
-      (λ y. absurd (leader_not m.role d role (both_are (is_stopped m.role) (can_open m.promise m.log) y).0))
-      (λ n. Quiet refl (λ k u o z. cc z)))
+    (silent (record m { role = Leader (new_leading m.members); job = Some (Write (opening_chunk m.promise (stamp_at now) m.log)) })) (silent m)
+    (λ y. absurd (leader_not m.role d role (both_are (is_stopped m.role) (can_open m.promise m.log) y).0))
+    (λ n. Quiet refl (λ k u o z. cc z)))
     (λ f. Quiet refl (λ k u o z. cc z))
 leader_taken now e (messages.Follow x f) m d fair p role opened =
     either (LeaderTook e m d (messages.Follow x f)) (is_another m.members m.number f && ((x == m.promise) || false)) (after_follow f m) (silent m)
@@ -175,11 +175,11 @@ leader_taken now e (messages.Shape x runs) m d fair p role opened =
 leader_taken now e (messages.Ask x from u) m d fair p role opened =
     either (LeaderTook e m d (messages.Ask x from u)) (is_another m.members m.number from && ((x == m.promise) || false)) (after_ask m.role from u m) (silent m)
     (λ t. let b = both_are (is_another m.members m.number from) ((x == m.promise) || false) t in
-      let same : x ≡ e = own x m.promise b.1 ∙ p in
-      Answers from u (ap (λ (n : ℕ). messages.Ask n from u) same) b.0
-      (ap (λ (r : MemberRole). after_ask r from u m) role ∙ ap (λ (y : Bool). cond y (ask_of_leader d from u m) (silent m)) opened))
+    let same : x ≡ e = own x m.promise b.1 ∙ p in
+    Answers from u (ap (λ (n : ℕ). messages.Ask n from u) same) b.0
+    (ap (λ (r : MemberRole). after_ask r from u m) role ∙ ap (λ (y : Bool). cond y (ask_of_leader d from u m) (silent m)) opened))
     (λ f. Quiet refl (λ k v o z. (let xe : x ≡ e = cc z in let fk : from ≡ k = cc z in
-      clash (is_another m.members m.number from && ((x == m.promise) || false)) (heard_test x m.promise (is_another m.members m.number from) (subst (λ (i : ℕ). is_another m.members m.number i ≡ true) (sym fk) o) (xe ∙ sym p)) f)))
+    clash (is_another m.members m.number from && ((x == m.promise) || false)) (heard_test x m.promise (is_another m.members m.number from) (subst (λ (i : ℕ). is_another m.members m.number i ≡ true) (sym fk) o) (xe ∙ sym p)) f)))
 leader_taken now e (messages.Append x u c) m d fair p role opened =
     either (LeaderTook e m d (messages.Append x u c)) ((x == m.promise) || false) (after_append m.role u c m) (silent m)
     (λ t. subst (λ (r : MemberRole). LeaderTook e m d (messages.Append x u c) (after_append r u c m)) (sym role) (Quiet refl (λ k v o z. cc z))) (λ f. Quiet refl (λ k v o z. cc z))
@@ -202,9 +202,9 @@ opener_taken now e (messages.Stopped x from t) m fair p role =
 opener_taken now e (messages.Open x) m fair p role =
     either (OpenerTook e m (messages.Open x)) ((x == m.promise) || false) (after_open now m) (silent m)
     (λ t. either (OpenerTook e m (messages.Open x)) (is_stopped m.role && can_open m.promise m.log)
-      (silent (record m { role = Leader (new_leading m.members); job = Some (Write (opening_chunk m.promise (stamp_at now) m.log)) })) (silent m)
-      (λ y. Opens (new_leading m.members) refl refl (subst (λ (n : ℕ). can_open n m.log ≡ true) p (both_are (is_stopped m.role) (can_open m.promise m.log) y).1))
-      (λ n. Cannot refl (subst (λ (n : ℕ). can_open n m.log ≡ false) p (subst (λ (r : MemberRole). (is_stopped r && can_open m.promise m.log) ≡ false) role n))))
+    (silent (record m { role = Leader (new_leading m.members); job = Some (Write (opening_chunk m.promise (stamp_at now) m.log)) })) (silent m)
+    (λ y. Opens (new_leading m.members) refl refl (subst (λ (n : ℕ). can_open n m.log ≡ true) p (both_are (is_stopped m.role) (can_open m.promise m.log) y).1))
+    (λ n. Cannot refl (subst (λ (n : ℕ). can_open n m.log ≡ false) p (subst (λ (r : MemberRole). (is_stopped r && can_open m.promise m.log) ≡ false) role n))))
     (λ f. Waits_on refl (λ z. (let xe : x ≡ e = cc z in clash ((x == m.promise) || false) (heard_test x m.promise true refl (xe ∙ sym p)) f)))
 opener_taken now e (messages.Follow x f) m fair p role =
     either (OpenerTook e m (messages.Follow x f)) (is_another m.members m.number f && ((x == m.promise) || false)) (after_follow f m) (silent m)
@@ -232,7 +232,7 @@ promise_stays now msg m =
     shape runs Stopped = refl
     shape runs (Leader d) = refl
     shape runs (Follower l) = either (λ (t : Took). t.state.promise ≡ m.promise) (ends_in m.promise m.log) (silent m) (cond (nat_lt (kept_end runs m.log) (end_of m.log)) (silent (record m { job = Some (Cut (kept_end runs m.log)) })) (asks l m))
-      (λ t. refl) (λ f. either (λ (t : Took). t.state.promise ≡ m.promise) (nat_lt (kept_end runs m.log) (end_of m.log)) (silent (record m { job = Some (Cut (kept_end runs m.log)) })) (asks l m) (λ t. refl) (λ f. refl))
+        (λ t. refl) (λ f. either (λ (t : Took). t.state.promise ≡ m.promise) (nat_lt (kept_end runs m.log) (end_of m.log)) (silent (record m { job = Some (Cut (kept_end runs m.log)) })) (asks l m) (λ t. refl) (λ f. refl))
 
     append : (u : Tail) (c : Chunk) (r : MemberRole) → (after_append r u c m).state.promise ≡ m.promise
     append u c Stopped = refl
@@ -250,14 +250,14 @@ promise_stays now msg m =
 
         asked : (k : ℕ) (u : Tail) (d : Leading) → (ask_of_leader d k u m).state.promise ≡ m.promise
         asked k u d = either (λ (t : Took). t.state.promise ≡ m.promise) (contains (runs_of m.log) u) (send_next (chunk_from u.end m.log) k u (record m { role = Leader (acknowledge m.promise k u d) })) (says k (messages.Shape m.promise d.kept) m)
-          (λ t. sent (chunk_from u.end m.log) k u (record m { role = Leader (acknowledge m.promise k u d) })) (λ f. refl)
+            (λ t. sent (chunk_from u.end m.log) k u (record m { role = Leader (acknowledge m.promise k u d) })) (λ f. refl)
 
     go : (msg : Message) → (heard now msg m).state.promise ≡ m.promise
     go (messages.Stop x) = either (λ (t : Took). t.state.promise ≡ m.promise) (nat_lt m.promise x) (silent (record m { role = Stopped; job = Some (Promise x) })) (cond ((x == m.promise) && is_stopped m.role) (says_stopped m) (silent m))
-      (λ t. refl) (λ f. either (λ (t : Took). t.state.promise ≡ m.promise) ((x == m.promise) && is_stopped m.role) (says_stopped m) (silent m) (λ t. refl) (λ f. refl))
+        (λ t. refl) (λ f. either (λ (t : Took). t.state.promise ≡ m.promise) ((x == m.promise) && is_stopped m.role) (says_stopped m) (silent m) (λ t. refl) (λ f. refl))
     go (messages.Stopped x from t) = refl
     go (messages.Open x) = either (λ (t : Took). t.state.promise ≡ m.promise) (is_stopped m.role && can_open m.promise m.log)
-      (silent (record m { role = Leader (new_leading m.members); job = Some (Write (opening_chunk m.promise (stamp_at now) m.log)) })) (silent m) (λ t. refl) (λ f. refl)
+        (silent (record m { role = Leader (new_leading m.members); job = Some (Write (opening_chunk m.promise (stamp_at now) m.log)) })) (silent m) (λ t. refl) (λ f. refl)
     go (messages.Follow x f) = either (λ (t : Took). t.state.promise ≡ m.promise) (is_stopped m.role) (asks f (record m { role = Follower f })) (silent m) (λ t. refl) (λ f. refl)
     go (messages.Shape x runs) = shape runs m.role
     go (messages.Ask x from u) = ask from u m.role

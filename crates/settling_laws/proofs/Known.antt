@@ -197,10 +197,10 @@ ask_out g w o k j s lt up opens out = elim (cases_Bool (ends_in e log)) [
       elim (tail_mark g log (s.each_member j).rooted) [
         | inl none ↦ (let x = rw none at out in cc x)
         | inr mark ↦ (
-          let same : g.canon t.epoch ≡ m.log = ap g.canon last ∙ sym x.2 in
-          let run : HasRun m.log t.epoch t.end = run_front mark.upto m.log t.epoch t.end (subst (GoesOn mark.upto) same mark.begins) mark.run in
-          let yes' = or_right ((t.epoch == 0) && (t.end == 0)) (has_run (runs_of m.log) t) (runs_from t 0 0 m.log (s.each_member k).is_log run) in
-          cc (yes', out))
+            let same : g.canon t.epoch ≡ m.log = ap g.canon last ∙ sym x.2 in
+            let run : HasRun m.log t.epoch t.end = run_front mark.upto m.log t.epoch t.end (subst (GoesOn mark.upto) same mark.begins) mark.run in
+            let yes' = or_right ((t.epoch == 0) && (t.end == 0)) (has_run (runs_of m.log) t) (runs_from t 0 0 m.log (s.each_member k).is_log run) in
+            cc (yes', out))
       ])
 ]
   where

@@ -135,7 +135,7 @@ nudge_tokens g w o e l so order h room = go h.led
         (nudged_is w k (mail l (messages.Ask e k (tail_of (member w k).log))) mk up
         (subst (λ (r : MemberRole). IsOf (mail l (messages.Ask e k (tail_of (member w k).log))) (nudged_by r (member w k))) (sym role)
         (inl (ap (λ (q : ℕ). mail q (messages.Ask (member w k).promise (member w k).number (tail_of (member w k).log))) fl
-          ∙ (ap (λ (q : ℕ). mail l (messages.Ask q (member w k).number (tail_of (member w k).log))) p ∙ ap (λ (q : ℕ). mail l (messages.Ask e q (tail_of (member w k).log))) (so.named k mk).0))))))
+        ∙ (ap (λ (q : ℕ). mail l (messages.Ask q (member w k).number (tail_of (member w k).log))) p ∙ ap (λ (q : ℕ). mail l (messages.Ask e q (tail_of (member w k).log))) (so.named k mk).0))))))
     one low k le mk ne up p (Leader d) role = absurd (ne (leads_alone g w o e l k d so h.runs p role))
 
     tokens : (low : ℕ) → low ≤ w.last → LeaderToken w' e l low → HasTokens w' e l low

@@ -85,7 +85,7 @@ words_delivered w now n e j s h mk up is to =
     words_on w (took j t w1) e h refl refl
     (took_old w1 e j t mk up (λ i. (u : Tail) × OnItsWay (Behind 0) (mail 0 (messages.Stopped e (suc i) u)) (took j t w1).mail) (λ i eq p. inl (promise_stays now s.message (member w j))))
     (λ i u way. way_more (Behind 0) (mail 0 (messages.Stopped e (suc i) u)) (marked n w.mail) (numbered w.last t.sent)
-      (way_marked (Behind 0) n (mail 0 (messages.Stopped e (suc i) u)) s w.mail is (λ at z. (let q : 0 ≡ j = sym (ap (λ (x : Sent). x.to) z) ∙ to in let y = mk.0 in omega (arith, q, y))) way))
+    (way_marked (Behind 0) n (mail 0 (messages.Stopped e (suc i) u)) s w.mail is (λ at z. (let q : 0 ≡ j = sym (ap (λ (x : Sent). x.to) z) ∙ to in let y = mk.0 in omega (arith, q, y))) way))
   where
     w1 : ClusterState
     w1 = record w { mail = marked n w.mail }
@@ -118,12 +118,15 @@ words_done : (g : Tree) (w : ClusterState) (o e j : ℕ) → Sound g o w → Has
 words_done g w o e j so h mk up room =
     words_on w (took j t w) e h refl refl
     (took_old w e j t mk up (λ i. (u : Tail) × OnItsWay (Behind 0) (mail 0 (messages.Stopped e (suc i) u)) (took j t w).mail)
-      (λ i eq p. elim (finished_promise m) [
-        | inl same ↦ inl same
-        | inr of ↦ inr (tail_of m.log, way_behind (Behind 0) (mail 0 (messages.Stopped e (suc i) (tail_of m.log))) w.mail (numbered w.last t.sent)
+    (λ i eq p. elim (finished_promise m) [
+      | inl same ↦ inl same
+      | inr of ↦ inr (
+        tail_of m.log,
+        way_behind (Behind 0) (mail 0 (messages.Stopped e (suc i) (tail_of m.log))) w.mail (numbered w.last t.sent)
             (way_sent (Behind 0) (mail 0 (messages.Stopped e (suc i) (tail_of m.log))) w.last t.sent (λ q z. omega (arith, z)) room
-            (subst (λ (x : Sent). IsOf x t.sent) (ap (λ (q : ℕ). mail 0 (messages.Stopped q m.number (tail_of m.log))) p ∙ ap (λ (q : ℕ). mail 0 (messages.Stopped e q (tail_of m.log))) ((so.named j mk).0 ∙ sym eq)) of)))
-      ]))
+            (subst (λ (x : Sent). IsOf x t.sent) (ap (λ (q : ℕ). mail 0 (messages.Stopped q m.number (tail_of m.log))) p ∙ ap (λ (q : ℕ). mail 0 (messages.Stopped e q (tail_of m.log))) ((so.named j mk).0 ∙ sym eq)) of)),
+      )
+    ]))
     (λ i u way. way_more (Behind 0) (mail 0 (messages.Stopped e (suc i) u)) w.mail (numbered w.last t.sent) way)
   where
     m : MemberState
@@ -313,13 +316,13 @@ voting_complete o e l now t (x ∷ xs) w' h steps ends runs most = go (votes o e
         subst (IsComplete w') same (run_complete o e k low now x xs w' g steps.1 ends (subst (RunsWith w' e) (sym same) runs) most)
     go (Now_lost k order st lost) on =
         absurd (let z = lost_run o e k now x xs w' order st lost steps.1 ends in
-          let same : k ≡ l = (let y = sym z.phase ∙ runs.phase in cc y) in
-          let up : (seat w' k).up ≡ true = ap (λ (q : ℕ). (seat w' q).up) same ∙ runs.leader_up in
-          let down = z.down in cc (up, down))
+        let same : k ≡ l = (let y = sym z.phase ∙ runs.phase in cc y) in
+        let up : (seat w' k).up ≡ true = ap (λ (q : ℕ). (seat w' q).up) same ∙ runs.leader_up in
+        let down = z.down in cc (up, down))
     go (Votes_end eq) on =
         absurd (let lx : x ≡ turn Rest w' = sym (last_is x xs (ap (λ (y : Turn). y.stage) eq) steps.1) ∙ ends in
-          let same : turn Rest (record t.cluster { mail = []; last = 0 }) ≡ turn Rest w' = sym eq ∙ lx in
-          let z : Electing ≡ Running l = sym h.words.elects.phase ∙ (ap (λ (y : Turn). y.cluster.coordinator.phase) same ∙ runs.phase) in cc z)
+        let same : turn Rest (record t.cluster { mail = []; last = 0 }) ≡ turn Rest w' = sym eq ∙ lx in
+        let z : Electing ≡ Running l = sym h.words.elects.phase ∙ (ap (λ (y : Turn). y.cluster.coordinator.phase) same ∙ runs.phase) in cc z)
 
 -- ---- the whole settle
 
@@ -353,11 +356,14 @@ nudge_words g w o e so el room = record {
       let k = suc i in
       let mk : IsMember w k = (omega arith, omega (arith, lt)) in
       let role = elect_stopped g w o e k so el p in
-      inr (tail_of (member w k).log, way_behind (Behind 0) (mail 0 (messages.Stopped e k (tail_of (member w k).log))) w.mail (numbered w.last (nudges w))
-      (way_sent (Behind 0) (mail 0 (messages.Stopped e k (tail_of (member w k).log))) w.last (nudges w) (λ q z. omega (arith, z)) room
-      (nudged_is w k (mail 0 (messages.Stopped e k (tail_of (member w k).log))) mk up
-      (subst (λ (r : MemberRole). IsOf (mail 0 (messages.Stopped e k (tail_of (member w k).log))) (nudged_by r (member w k))) (sym role)
-      (inl (ap (λ (q : ℕ). mail 0 (messages.Stopped q (member w k).number (tail_of (member w k).log))) p ∙ ap (λ (q : ℕ). mail 0 (messages.Stopped e q (tail_of (member w k).log))) (so.named k mk).0))))));
+      inr (
+        tail_of (member w k).log,
+        way_behind (Behind 0) (mail 0 (messages.Stopped e k (tail_of (member w k).log))) w.mail (numbered w.last (nudges w))
+            (way_sent (Behind 0) (mail 0 (messages.Stopped e k (tail_of (member w k).log))) w.last (nudges w) (λ q z. omega (arith, z)) room
+            (nudged_is w k (mail 0 (messages.Stopped e k (tail_of (member w k).log))) mk up
+            (subst (λ (r : MemberRole). IsOf (mail 0 (messages.Stopped e k (tail_of (member w k).log))) (nudged_by r (member w k))) (sym role)
+            (inl (ap (λ (q : ℕ). mail 0 (messages.Stopped q (member w k).number (tail_of (member w k).log))) p ∙ ap (λ (q : ℕ). mail 0 (messages.Stopped e q (tail_of (member w k).log))) (so.named k mk).0))))),
+      );
 }
 
 calls : (o e now : ℕ) (t x : Turn) → Called o e t → CleanStep now t x → Calls o e x

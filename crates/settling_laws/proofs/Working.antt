@@ -171,12 +171,12 @@ pub coordinator_took : (e l x from : ℕ) (u : Tail) (c : CoordinatorState) → 
 coordinator_took e l x from u c phase epoch idle =
     subst (λ (j : Option ℕ). CoordinatorTook e l c x from (stopped_by j x from u c)) (sym idle)
     (either (CoordinatorTook e l c x from) (not (is_another c.members 0 from)) (hears c did.Nothing) (cond (nat_lt x c.epoch) (told_before c.phase from c) (cond (x == c.epoch) (told_in_epoch c.phase from u c) (hears c did.Nothing)))
-      (λ n. Passes refl refl refl (λ y z. clash_not (is_another c.members 0 from) y n))
-      (λ f. either (CoordinatorTook e l c x from) (nat_lt x c.epoch) (told_before c.phase from c) (cond (x == c.epoch) (told_in_epoch c.phase from u c) (hears c did.Nothing))
-        (λ lt. subst (λ (p : Phase). CoordinatorTook e l c x from (told_before p from c)) (sym phase) (Passes refl refl refl (λ y z. less x c.epoch lt (z ∙ sym epoch))))
-        (λ nlt. either (CoordinatorTook e l c x from) (x == c.epoch) (told_in_epoch c.phase from u c) (hears c did.Nothing)
-          (λ same. subst (λ (p : Phase). CoordinatorTook e l c x from (told_in_epoch p from u c)) (sym phase) (Tells_back refl refl refl (inl (ap (λ (n : ℕ). open_or_follow n l from) epoch))))
-          (λ ne. Passes refl refl refl (λ y z. clash (x == c.epoch) (eq_made x c.epoch (z ∙ sym epoch)) ne)))))
+    (λ n. Passes refl refl refl (λ y z. clash_not (is_another c.members 0 from) y n))
+    (λ f. either (CoordinatorTook e l c x from) (nat_lt x c.epoch) (told_before c.phase from c) (cond (x == c.epoch) (told_in_epoch c.phase from u c) (hears c did.Nothing))
+    (λ lt. subst (λ (p : Phase). CoordinatorTook e l c x from (told_before p from c)) (sym phase) (Passes refl refl refl (λ y z. less x c.epoch lt (z ∙ sym epoch))))
+    (λ nlt. either (CoordinatorTook e l c x from) (x == c.epoch) (told_in_epoch c.phase from u c) (hears c did.Nothing)
+    (λ same. subst (λ (p : Phase). CoordinatorTook e l c x from (told_in_epoch p from u c)) (sym phase) (Tells_back refl refl refl (inl (ap (λ (n : ℕ). open_or_follow n l from) epoch))))
+    (λ ne. Passes refl refl refl (λ y z. clash (x == c.epoch) (eq_made x c.epoch (z ∙ sym epoch)) ne)))))
   where
     clash_not : (b : Bool) → b ≡ true → not b ≡ true → ⊥
     clash_not true y n = cc n
@@ -273,7 +273,7 @@ stopped_delivers g w o n e l low x from u s so h is to msg room = go (coordinato
     go (Passes ph ep jb none) =
         with_tells ph ep jb (λ k mk nl y role way. Tells y role (pass (Behind 0) (mail 0 (messages.Stopped e k y))
         (λ z. (let same : messages.Stopped x from u ≡ messages.Stopped e k y = sym msg ∙ ap (λ (q : Sent). q.message) z in let xe : x ≡ e = cc same in let fk : from ≡ k = cc same in
-          none (subst (λ (i : ℕ). is_another w.coordinator.members 0 i ≡ true) (sym fk) (named k mk)) xe)) way))
+        none (subst (λ (i : ℕ). is_another w.coordinator.members 0 i ≡ true) (sym fk) (named k mk)) xe)) way))
     go (Tells_back ph ep jb of) =
         with_tells ph ep jb (λ k mk nl y role way. elim (cases_eq from k) [
           | inr ne ↦ Tells y role (pass (Behind 0) (mail 0 (messages.Stopped e k y))
