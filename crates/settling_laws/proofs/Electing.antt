@@ -98,13 +98,13 @@ follow_of e l first (x ∷ xs) (suc i) is ne =
 
 -- ---- what a word makes of the coordinator
 
-data ElectTook (e : ℕ) (c : CoordinatorState) (x from : ℕ) (u : Tail) (h : Hears) : Type 0 where
+pub data ElectTook (e : ℕ) (c : CoordinatorState) (x from : ℕ) (u : Tail) (h : Hears) : Type 0 where
   Passes_by : h.state ≡ c → (is_another c.members 0 from ≡ true → x ≡ e → ⊥) → ElectTook e c x from u h
-  Counts_on : h.state ≡ record c { told = tell from u c.told } → is_another c.members 0 from ≡ true → ElectTook e c x from u h
+  Counts_on : h.state ≡ record c { told = tell from u c.told } → is_another c.members 0 from ≡ true → is_majority c.members (repliers (tell from u c.told)) ≡ false → ElectTook e c x from u h
   Opens_epoch : h ≡ hears (record c { told = tell from u c.told; phase = Running (leader_of (tell from u c.told)) }) (did.Opened c.epoch (leader_of (tell from u c.told)) (electors_of (tell from u c.told)))
       → is_another c.members 0 from ≡ true → ElectTook e c x from u h
 
-elect_took : (e x from : ℕ) (u : Tail) (c : CoordinatorState) → c.phase ≡ Electing → c.epoch ≡ e → c.job ≡ None → ElectTook e c x from u (stopped x from u c)
+pub elect_took : (e x from : ℕ) (u : Tail) (c : CoordinatorState) → c.phase ≡ Electing → c.epoch ≡ e → c.job ≡ None → ElectTook e c x from u (stopped x from u c)
 elect_took e x from u c phase epoch idle =
     subst (λ (j : Option ℕ). ElectTook e c x from u (stopped_by j x from u c)) (sym idle)
     (either (ElectTook e c x from u) (not (is_another c.members 0 from)) (hears c did.Nothing) (cond (nat_lt x c.epoch) (told_before c.phase from c) (cond (x == c.epoch) (told_in_epoch c.phase from u c) (hears c did.Nothing)))
@@ -116,7 +116,7 @@ elect_took e x from u c phase epoch idle =
     (either (ElectTook e c x from u) (is_majority c.members (repliers (tell from u c.told)))
     (hears (record c { told = tell from u c.told; phase = Running (leader_of (tell from u c.told)) }) (did.Opened c.epoch (leader_of (tell from u c.told)) (electors_of (tell from u c.told))))
     (hears (record c { told = tell from u c.told }) did.Nothing)
-    (λ y. Opens_epoch refl (named (is_another c.members 0 from) f)) (λ n. Counts_on refl (named (is_another c.members 0 from) f))))
+    (λ y. Opens_epoch refl (named (is_another c.members 0 from) f)) (λ n. Counts_on refl (named (is_another c.members 0 from) f) n)))
     (λ ne. Passes_by refl (λ y z. clash (x == c.epoch) (eq_made x c.epoch (z ∙ sym epoch)) ne)))))
   where
     clash : (b : Bool) → b ≡ true → b ≡ false → ⊥
@@ -219,7 +219,7 @@ word_comes g g' w o n e x from u s so h is to msg room so' = go (elect_took e x 
         )
       ];
     })
-    go (Counts_on st other) = Goes_on (record {
+    go (Counts_on st other few) = Goes_on (record {
       elects = record { coordinator_up = h.elects.coordinator_up; phase = ap (λ (c : CoordinatorState). c.phase) st ∙ h.elects.phase; epoch_is = ap (λ (c : CoordinatorState). c.epoch) st ∙ h.elects.epoch_is; idle = ap (λ (c : CoordinatorState). c.job) st ∙ h.elects.idle };
       each = λ i lt up p. elim (word i lt other (h.each i lt up p)) [
         | inl t ↦ inl (ap (λ (c : CoordinatorState). is_told (slice_index_or c.told i None)) st ∙ t)
@@ -272,7 +272,7 @@ word_comes g g' w o n e x from u s so h is to msg room so' = go (elect_took e x 
         lm = member_known w l (omega (arith, late, promised))
 
         by : (b : Bool) → (seat w l).up ≡ b → Elected w' e
-        by false down = Is_lost l (record { coordinator_up = h.elects.coordinator_up; phase = phase; epoch_is = epoch; idle = idle; down = down })
+        by false down = Is_lost l (record { coordinator_up = h.elects.coordinator_up; phase = phase; epoch_is = epoch; idle = idle; is_member = lm; down = down })
         by true up = Runs l (w.last + 1) (record {
           runs = record { coordinator_up = h.elects.coordinator_up; phase = phase; epoch_is = epoch; idle = idle; is_member = lm; leader_up = up; promised = promised };
           leads = Is_to_open (elect_stopped g w o e l so h.elects promised) (subst (λ (xs : List Sent). w.last + length (numbered w.last xs) < last_number → OnItsWay (Exactly (w.last + 1)) (mail l (messages.Open e)) (marked n w.mail ++ numbered w.last xs)) (sym sent_is) first room);

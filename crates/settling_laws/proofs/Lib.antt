@@ -15,3 +15,5 @@ pub mod Nudging
 pub mod Refused
 pub mod Electing
 pub mod Voting
+pub mod Calling
+pub mod Opening

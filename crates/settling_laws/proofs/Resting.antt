@@ -40,7 +40,7 @@ pub up_by : (w : ClusterState) (k : ℕ) → IsMember w k → (seat w k).up ≡ 
 up_by w zero mk up = absurd (omega (arith, mk.0))
 up_by w (suc i) mk up = is_up_by w (suc i) (mk, up)
 
-idle_by : (w : ClusterState) (k : ℕ) → next_job w ≡ None → IsMember w k → (seat w k).up ≡ true → (member w k).job ≡ None
+pub idle_by : (w : ClusterState) (k : ℕ) → next_job w ≡ None → IsMember w k → (seat w k).up ≡ true → (member w k).job ≡ None
 idle_by w zero none mk up = absurd (omega (arith, mk.0))
 idle_by w (suc i) none mk up = (free_is w (suc i) none (mk, up)).1
 

@@ -148,6 +148,7 @@ lost_took w e l j t h up = record {
   phase = h.phase;
   epoch_is = h.epoch_is;
   idle = h.idle;
+  is_member = (h.is_member.0, (let c = count_put j (record { up = true; state = t.state }) w.seats in let z = h.is_member.1 in omega (arith, z, c)));
   down = elim (cases_eq l j) [
     | inl eq ↦ absurd (let z : (seat w l).up ≡ true = ap (λ (x : ℕ). (seat w x).up) eq ∙ up in let d = h.down in cc (z, d))
     | inr ne ↦ ap (λ (s : Seat). s.up) (seat_same w j l t ne) ∙ h.down
@@ -158,8 +159,8 @@ lost_to : (msg : Message) (w : ClusterState) (e l : ℕ) → IsLost w e l → Is
 lost_to (messages.Stopped x from u) w e l h = go (coordinator_took e l x from u w.coordinator h.phase h.epoch_is h.idle)
   where
     go : CoordinatorTook e l w.coordinator x from (coordinators.stopped x from u w.coordinator) → IsLost (to_coordinator (messages.Stopped x from u) w) e l
-    go (Passes ph ep jb none) = record { coordinator_up = h.coordinator_up; phase = ph ∙ h.phase; epoch_is = ep ∙ h.epoch_is; idle = jb ∙ h.idle; down = h.down }
-    go (Tells_back ph ep jb of) = record { coordinator_up = h.coordinator_up; phase = ph ∙ h.phase; epoch_is = ep ∙ h.epoch_is; idle = jb ∙ h.idle; down = h.down }
+    go (Passes ph ep jb none) = record { coordinator_up = h.coordinator_up; phase = ph ∙ h.phase; epoch_is = ep ∙ h.epoch_is; idle = jb ∙ h.idle; is_member = h.is_member; down = h.down }
+    go (Tells_back ph ep jb of) = record { coordinator_up = h.coordinator_up; phase = ph ∙ h.phase; epoch_is = ep ∙ h.epoch_is; idle = jb ∙ h.idle; is_member = h.is_member; down = h.down }
 lost_to (messages.Stop x) w e l h = h
 lost_to (messages.Open x) w e l h = h
 lost_to (messages.Follow x f) w e l h = h
@@ -174,7 +175,7 @@ lost_comes now n e l w s h free = go s.to free
     w1 = record w { mail = marked n w.mail }
 
     h1 : IsLost w1 e l
-    h1 = record { coordinator_up = h.coordinator_up; phase = h.phase; epoch_is = h.epoch_is; idle = h.idle; down = h.down }
+    h1 = record { coordinator_up = h.coordinator_up; phase = h.phase; epoch_is = h.epoch_is; idle = h.idle; is_member = h.is_member; down = h.down }
 
     go : (k : ℕ) → IsFree w k → IsLost (comes now k s.message w1) e l
     go zero free = lost_to s.message w1 e l h1
@@ -188,10 +189,10 @@ lost_works k e l w h next = go k (job_of w k next)
     go k (Of_member i is up some) = subst (λ (x : ℕ). IsLost (performed x w) e l) (sym is) (lost_took w e l (suc i) (finished (member w (suc i))) h up.1)
 
 lost_bare : (w : ClusterState) (e l : ℕ) → IsLost w e l → IsLost (bare w) e l
-lost_bare w e l h = record { coordinator_up = h.coordinator_up; phase = h.phase; epoch_is = h.epoch_is; idle = h.idle; down = h.down }
+lost_bare w e l h = record { coordinator_up = h.coordinator_up; phase = h.phase; epoch_is = h.epoch_is; idle = h.idle; is_member = h.is_member; down = h.down }
 
 lost_run : (o e l now : ℕ) (t : Turn) (turns : List Turn) (w' : ClusterState) → IsInOrder t.cluster → t.stage ≢ Jobs → IsLost t.cluster e l → CleanSteps now t turns → last_turn t turns ≡ turn Rest w' → IsLost w' e l
-lost_run o e l now t [] w' order s h steps ends = (let z = subst (λ (y : Turn). IsLost y.cluster e l) ends h in record { coordinator_up = z.coordinator_up; phase = z.phase; epoch_is = z.epoch_is; idle = z.idle; down = z.down })
+lost_run o e l now t [] w' order s h steps ends = (let z = subst (λ (y : Turn). IsLost y.cluster e l) ends h in record { coordinator_up = z.coordinator_up; phase = z.phase; epoch_is = z.epoch_is; idle = z.idle; is_member = z.is_member; down = z.down })
 lost_run o e l now t (x ∷ xs) w' order s h steps ends = go steps.0.step steps.0.performed (λ st lost. lost_run o e l now x xs w' (step_order now t x order steps.0.step) st lost steps.1 ends)
   where
     lost_as : (w : ClusterState) (st : Stage) → x ≡ turn st w → IsLost w e l → IsLost x.cluster e l
@@ -213,7 +214,7 @@ lost_run o e l now t (x ∷ xs) w' order s h steps ends = go steps.0.step steps.
         (lost_as (comes now q.to q.message (record t.cluster { mail = marked n t.cluster.mail })) Letters eq (lost_comes now n e l t.cluster q h free))
     go (Forget st none next eq) p on =
         on (not_jobs Rest (record t.cluster { mail = []; last = 0 }) eq (λ z. cc z))
-        (lost_as (record t.cluster { mail = []; last = 0 }) Rest eq (record { coordinator_up = h.coordinator_up; phase = h.phase; epoch_is = h.epoch_is; idle = h.idle; down = h.down }))
+        (lost_as (record t.cluster { mail = []; last = 0 }) Rest eq (record { coordinator_up = h.coordinator_up; phase = h.phase; epoch_is = h.epoch_is; idle = h.idle; is_member = h.is_member; down = h.down }))
 
 -- ---- the leader stays
 
@@ -234,20 +235,20 @@ phase_end o e l low now t (x ∷ xs) w' h steps ends = go (onward o e l low now 
 
 -- ---- words along the run
 
-record Voting (o e : ℕ) (t : Turn) : Type 0 where
-  stage : t.stage ≡ Letters
-  order : IsInOrder t.cluster
-  reigns : List Reign
-  sound : SoundWith Truthful o (with_reigns reigns t.cluster)
-  words : HasWords (with_reigns reigns t.cluster) e
+pub record Voting (o e : ℕ) (t : Turn) : Type 0 where
+  pub stage : t.stage ≡ Letters
+  pub order : IsInOrder t.cluster
+  pub reigns : List Reign
+  pub sound : SoundWith Truthful o (with_reigns reigns t.cluster)
+  pub words : HasWords (with_reigns reigns t.cluster) e
 
-data Votes (o e : ℕ) (t x : Turn) : Type 0 where
+pub data Votes (o e : ℕ) (t x : Turn) : Type 0 where
   Still_votes : Voting o e x → Votes o e t x
   Now_runs : (l low : ℕ) → Going o e l low x → Votes o e t x
   Now_lost : (l : ℕ) → IsInOrder x.cluster → x.stage ≢ Jobs → IsLost x.cluster e l → Votes o e t x
   Votes_end : x ≡ turn Rest (record t.cluster { mail = []; last = 0 }) → Votes o e t x
 
-votes : (o e now : ℕ) (t x : Turn) → Voting o e t → CleanStep now t x → Votes o e t x
+pub votes : (o e now : ℕ) (t x : Turn) → Voting o e t → CleanStep now t x → Votes o e t x
 votes o e now t x h c = go c.step c.performed (step_order now t x h.order c.step)
   where
     w : ClusterState
@@ -262,7 +263,7 @@ votes o e now t x h c = go c.step c.performed (step_order now t x h.order c.step
     still more w' same st order sound (Runs l low tokens) =
         Now_runs l low (record { stage = st; order = order; reigns = more ++ h.reigns; sound = subst (SoundWith Truthful o) (sym same) sound; brought = inl (subst (λ (y : ClusterState). HasTokens y e l low) (sym same) tokens) })
     still more w' same st order sound (Is_lost l lost) =
-        Now_lost l order (not_jobs st) (let z = subst (λ (y : ClusterState). IsLost y e l) (sym same) lost in record { coordinator_up = z.coordinator_up; phase = z.phase; epoch_is = z.epoch_is; idle = z.idle; down = z.down })
+        Now_lost l order (not_jobs st) (let z = subst (λ (y : ClusterState). IsLost y e l) (sym same) lost in record { coordinator_up = z.coordinator_up; phase = z.phase; epoch_is = z.epoch_is; idle = z.idle; is_member = z.is_member; down = z.down })
 
     works : (k : ℕ) → JobOf w k → (performed k w).last < last_number → HasWords (performed k w) e
     works k (Of_coordinator epoch is up job) room = absurd (let z : Some epoch ≡ None = sym job ∙ h.words.elects.idle in cc z)
@@ -326,14 +327,14 @@ voting_complete o e l now t (x ∷ xs) w' h steps ends runs most = go (votes o e
 
 -- ---- the whole settle
 
-record Called (o e : ℕ) (t : Turn) : Type 0 where
-  stage : t.stage ≡ Jobs
-  order : IsInOrder t.cluster
-  reigns : List Reign
-  sound : SoundWith Truthful o (with_reigns reigns t.cluster)
-  elects : Elects_next (with_reigns reigns t.cluster) e
+pub record Called (o e : ℕ) (t : Turn) : Type 0 where
+  pub stage : t.stage ≡ Jobs
+  pub order : IsInOrder t.cluster
+  pub reigns : List Reign
+  pub sound : SoundWith Truthful o (with_reigns reigns t.cluster)
+  pub elects : Elects_next (with_reigns reigns t.cluster) e
 
-data Calls (o e : ℕ) (x : Turn) : Type 0 where
+pub data Calls (o e : ℕ) (x : Turn) : Type 0 where
   Still_called : Called o e x → Calls o e x
   Now_votes : Voting o e x → Calls o e x
 
@@ -349,24 +350,28 @@ called_works w e k h next = go k (job_of w k next) h
     go k (Of_member i is up some) (inl el) = subst (λ (x : ℕ). Elects_next (performed x w) e) (sym is) (inl (record { coordinator_up = el.coordinator_up; phase = el.phase; epoch_is = el.epoch_is; idle = el.idle }))
     go k (Of_member i is up some) (inr p) = subst (λ (x : ℕ). Elects_next (performed x w) e) (sym is) (inr p)
 
+-- the nudge makes everyone that promised the epoch tell it
+pub nudge_word : (g : Tree) (w : ClusterState) (o e : ℕ) → Sound g o w → Electing_in w e → (send w (nudges w)).last < last_number → (i : ℕ) → i < length w.seats → (seat w (suc i)).up ≡ true → (member w (suc i)).promise ≡ e
+    → (t : Tail) × OnItsWay (Behind 0) (mail 0 (messages.Stopped e (suc i) t)) (send w (nudges w)).mail
+nudge_word g w o e so el room i lt up p =
+    let k = suc i in
+    let mk : IsMember w k = (omega arith, omega (arith, lt)) in
+    let role = elect_stopped g w o e k so el p in (
+      tail_of (member w k).log,
+      way_behind (Behind 0) (mail 0 (messages.Stopped e k (tail_of (member w k).log))) w.mail (numbered w.last (nudges w))
+      (way_sent (Behind 0) (mail 0 (messages.Stopped e k (tail_of (member w k).log))) w.last (nudges w) (λ q z. omega (arith, z)) room
+      (nudged_is w k (mail 0 (messages.Stopped e k (tail_of (member w k).log))) mk up
+      (subst (λ (r : MemberRole). IsOf (mail 0 (messages.Stopped e k (tail_of (member w k).log))) (nudged_by r (member w k))) (sym role)
+      (inl (ap (λ (q : ℕ). mail 0 (messages.Stopped q (member w k).number (tail_of (member w k).log))) p ∙ ap (λ (q : ℕ). mail 0 (messages.Stopped e q (tail_of (member w k).log))) (so.named k mk).0))))),
+    )
+
 nudge_words : (g : Tree) (w : ClusterState) (o e : ℕ) → Sound g o w → Electing_in w e → (send w (nudges w)).last < last_number → HasWords (send w (nudges w)) e
 nudge_words g w o e so el room = record {
   elects = record { coordinator_up = el.coordinator_up; phase = el.phase; epoch_is = el.epoch_is; idle = el.idle };
-  each = λ i lt up p.
-      let k = suc i in
-      let mk : IsMember w k = (omega arith, omega (arith, lt)) in
-      let role = elect_stopped g w o e k so el p in
-      inr (
-        tail_of (member w k).log,
-        way_behind (Behind 0) (mail 0 (messages.Stopped e k (tail_of (member w k).log))) w.mail (numbered w.last (nudges w))
-            (way_sent (Behind 0) (mail 0 (messages.Stopped e k (tail_of (member w k).log))) w.last (nudges w) (λ q z. omega (arith, z)) room
-            (nudged_is w k (mail 0 (messages.Stopped e k (tail_of (member w k).log))) mk up
-            (subst (λ (r : MemberRole). IsOf (mail 0 (messages.Stopped e k (tail_of (member w k).log))) (nudged_by r (member w k))) (sym role)
-            (inl (ap (λ (q : ℕ). mail 0 (messages.Stopped q (member w k).number (tail_of (member w k).log))) p ∙ ap (λ (q : ℕ). mail 0 (messages.Stopped e q (tail_of (member w k).log))) (so.named k mk).0))))),
-      );
+  each = λ i lt up p. inr (nudge_word g w o e so el room i lt up p);
 }
 
-calls : (o e now : ℕ) (t x : Turn) → Called o e t → CleanStep now t x → Calls o e x
+pub calls : (o e now : ℕ) (t x : Turn) → Called o e t → CleanStep now t x → Calls o e x
 calls o e now t x h c = go c.step c.performed (step_order now t x h.order c.step)
   where
     w : ClusterState
