@@ -220,9 +220,14 @@ calls_told g w o n e x from u s so el h is to msg el' =
     go : ElectTook e w.coordinator x from u hs → (is_majority w'.coordinator.members (repliers w'.coordinator.told) ≡ false) ⊎ ((i : ℕ) × (t : Tail) × (i < length w'.seats) × OnItsWay (Behind 0) (mail 0 (messages.Stopped e (suc i) t)) w'.mail)
     go (Passes_by st none) = elim h.vote [
       | inl v ↦ inl (ap (λ (c : CoordinatorState). is_majority c.members (repliers c.told)) st ∙ v)
-      | inr z ↦ inr (z.0, z.1, z.2, pass (mail 0 (messages.Stopped e (suc z.0) z.1))
-          (λ q. (let same : messages.Stopped x from u ≡ messages.Stopped e (suc z.0) z.1 = sym msg ∙ ap (λ (y : Sent). y.message) q in let xe : x ≡ e = cc same in let fk : from ≡ suc z.0 = cc same in
-            let lt = z.2 in none (subst (λ (k : ℕ). is_another w.coordinator.members 0 k ≡ true) (sym fk) (named (suc z.0) (omega arith, omega (arith, lt)))) xe)) z.3)
+      | inr z ↦ inr (
+        z.0,
+        z.1,
+        z.2,
+        pass (mail 0 (messages.Stopped e (suc z.0) z.1))
+            (λ q. (let same : messages.Stopped x from u ≡ messages.Stopped e (suc z.0) z.1 = sym msg ∙ ap (λ (y : Sent). y.message) q in let xe : x ≡ e = cc same in let fk : from ≡ suc z.0 = cc same in
+            let lt = z.2 in none (subst (λ (k : ℕ). is_another w.coordinator.members 0 k ≡ true) (sym fk) (named (suc z.0) (omega arith, omega (arith, lt)))) xe)) z.3,
+      )
     ]
     go (Counts_on st other few) = inl (ap (λ (c : CoordinatorState). is_majority c.members (repliers c.told)) st ∙ few)
     go (Opens_epoch eq other) = absurd (let z = el'.phase in let y = ap (λ (q : Hears). q.state.phase) eq in cc (z, y))
@@ -238,7 +243,7 @@ untold_is e first (x ∷ xs) zero lt no' =
 untold_is e first (x ∷ xs) (suc i) lt no' =
     let at : first + 1 + i ≡ first + suc i = omega arith in
     let rest : IsOf (mail (first + suc i) (messages.Stop e)) (to_each (messages.Stop e) (untold_from (first + 1) xs)) =
-      subst (λ (n : ℕ). IsOf (mail n (messages.Stop e)) (to_each (messages.Stop e) (untold_from (first + 1) xs))) at (untold_is e (first + 1) xs i (omega (arith, lt)) no') in
+    subst (λ (n : ℕ). IsOf (mail n (messages.Stop e)) (to_each (messages.Stop e) (untold_from (first + 1) xs))) at (untold_is e (first + 1) xs i (omega (arith, lt)) no') in
     either (λ (ns : List ℕ). IsOf (mail (first + suc i) (messages.Stop e)) (to_each (messages.Stop e) ns)) (is_told x) (untold_from (first + 1) xs) (first ∷ untold_from (first + 1) xs) (λ y. rest) (λ n. inr rest)
 
 told_is : (first : ℕ) (told : List (Option Tail)) (i : ℕ) (t : Tail) → slice_index_or told i None ≡ Some t → Told first told (first + i) t

@@ -359,10 +359,10 @@ nudge_word g w o e so el room i lt up p =
     let role = elect_stopped g w o e k so el p in (
       tail_of (member w k).log,
       way_behind (Behind 0) (mail 0 (messages.Stopped e k (tail_of (member w k).log))) w.mail (numbered w.last (nudges w))
-      (way_sent (Behind 0) (mail 0 (messages.Stopped e k (tail_of (member w k).log))) w.last (nudges w) (λ q z. omega (arith, z)) room
-      (nudged_is w k (mail 0 (messages.Stopped e k (tail_of (member w k).log))) mk up
-      (subst (λ (r : MemberRole). IsOf (mail 0 (messages.Stopped e k (tail_of (member w k).log))) (nudged_by r (member w k))) (sym role)
-      (inl (ap (λ (q : ℕ). mail 0 (messages.Stopped q (member w k).number (tail_of (member w k).log))) p ∙ ap (λ (q : ℕ). mail 0 (messages.Stopped e q (tail_of (member w k).log))) (so.named k mk).0))))),
+          (way_sent (Behind 0) (mail 0 (messages.Stopped e k (tail_of (member w k).log))) w.last (nudges w) (λ q z. omega (arith, z)) room
+          (nudged_is w k (mail 0 (messages.Stopped e k (tail_of (member w k).log))) mk up
+          (subst (λ (r : MemberRole). IsOf (mail 0 (messages.Stopped e k (tail_of (member w k).log))) (nudged_by r (member w k))) (sym role)
+          (inl (ap (λ (q : ℕ). mail 0 (messages.Stopped q (member w k).number (tail_of (member w k).log))) p ∙ ap (λ (q : ℕ). mail 0 (messages.Stopped e q (tail_of (member w k).log))) (so.named k mk).0))))),
     )
 
 nudge_words : (g : Tree) (w : ClusterState) (o e : ℕ) → Sound g o w → Electing_in w e → (send w (nudges w)).last < last_number → HasWords (send w (nudges w)) e

@@ -1,15 +1,15 @@
 //! What a settle brings about.
 
-ghost use Rattle.std.specs.Prelude.{◌≡◌, ℕ, List, [], None};
+ghost use Rattle.std.specs.Prelude.{◌≡◌, ◌⊎◌, ◌<◌, ℕ, suc, true, List, [], None, length};
 ghost use Rattle.chunk_format.specs.declared.chunk.Chunk.{Chunk};
 ghost use Rattle.chunk_format.specs.Logs.{Truthful};
-ghost use Rattle.replication_laws.specs.Cluster.{Reign, ClusterState, RunsWith};
+ghost use Rattle.replication_laws.specs.Cluster.{Reign, ClusterState, seat, RunsWith};
 ghost use Rattle.replication_laws.specs.Confirms.{Awaits};
 ghost use Rattle.replication_laws.specs.Properties.{SoundWith};
 ghost use Rattle.replication_laws.specs.Soundness.{IsSound};
 ghost use Rattle.settling_laws.specs.Settling.{Jobs, Rest, turn, Settles, next_job, with_reigns};
 ghost use Rattle.settling_laws.specs.Measures.{IsInOrder};
-ghost use Rattle.settling_laws.specs.Tokens.{Running_by};
+ghost use Rattle.settling_laws.specs.Tokens.{Running_by, IsStuck};
 ghost use Rattle.settling_laws.specs.Electing.{Elects_next};
 ghost use Rattle.settling_laws.specs.Clean.{SettlesCleanly, IsLed, HasMost, IsComplete};
 
@@ -29,6 +29,15 @@ pub fn a_settle_completes()
         → SettlesCleanly now (turn Jobs w) (turn Rest w') → RunsWith w' epoch leader → HasMost w' epoch → IsComplete w' leader }
     ensures electing { (opened now epoch leader : ℕ) (reigns : List Reign) (w w' : ClusterState) → SoundWith Truthful opened (with_reigns reigns w) → IsInOrder w → Elects_next w epoch
         → SettlesCleanly now (turn Jobs w) (turn Rest w') → RunsWith w' epoch leader → HasMost w' epoch → IsComplete w' leader }
+{}
+
+/// A settle that elects an epoch, or is to make it durable, while all members are up: where no job is answered by a fault
+/// and numbers last, the epoch runs behind it with an open leader, unless its leader can't open behind its log. It does
+/// nothing.
+pub fn an_election_opens()
+    ensures { (opened now epoch : ℕ) (reigns : List Reign) (w w' : ClusterState) → SoundWith Truthful opened (with_reigns reigns w) → IsInOrder w → 0 < length w.seats
+        → ((i : ℕ) → i < length w.seats → (seat w (suc i)).up ≡ true) → Elects_next w epoch → SettlesCleanly now (turn Jobs w) (turn Rest w')
+        → (leader : ℕ) × (RunsWith w' epoch leader ⊎ IsStuck w' epoch leader) }
 {}
 
 /// Where all is committed that the leader has, no claim waits. It does nothing.

@@ -7,7 +7,9 @@ mod ending_laws;
 mod refused_runs;
 mod step_laws;
 
-pub use complete_laws::{a_settle_completes, a_settle_leaves_nothing, no_claim_waits};
+pub use complete_laws::{
+    a_settle_completes, a_settle_leaves_nothing, an_election_opens, no_claim_waits,
+};
 pub use ending_laws::{a_settle_ends, jobs_run_out, numbers_rise};
 pub use refused_runs::{
     a_fault_stops_its_member, messages_are_delivered_first, numbering_begins_again,
