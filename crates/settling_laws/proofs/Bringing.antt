@@ -1,31 +1,27 @@
 -- Each delivery to a member keeps the tokens.
-use Rattle.std.proofs.Common.{◌≡◌, ℕ, ◌+◌, ◌-◌, ◌<◌, ◌≤◌, ◌≢◌, ◌⊎◌, List, [], ◌∷◌, ◌++◌, length, refl, sym, ap, ◌∙◌, subst, inl, inr, arith, Option, Some, None, Bool, true, false, cond, zero, suc}
-use Rattle.std.specs.Prelude.{◌&&◌, ◌||◌, ◌==◌, not, nat_lt, nat_le, max, slice_index}
-use Rattle.std.proofs.lemmas.Bool.{cases_eq, cases_Bool, cases_lt}
+use Rattle.std.proofs.Common.{◌≡◌, ℕ, ◌<◌, ◌≤◌, ◌≢◌, List, length, refl, sym, ap, ◌∙◌, subst, inl, inr, arith, Some, None, Bool, true, false}
+use Rattle.std.specs.Prelude.{◌&&◌, ◌==◌, not, nat_lt, nat_le}
+use Rattle.std.proofs.lemmas.Bool.{cases_eq, cases_Bool}
 use Rattle.chunk_format.specs.declared.chunk.Chunk.{Chunk}
-use Rattle.chunk_format.specs.Logs.{end_of, Truthful}
+use Rattle.chunk_format.specs.Logs.{end_of}
 use Rattle.epoch_coordinator.specs.declared.tail.Tail.{Tail}
 use Rattle.epoch_coordinator.specs.declared.tail.Run.{Run}
-use Rattle.epoch_coordinator.specs.declared.message.Job.{Job}
 use Rattle.epoch_coordinator.specs.declared.message.Message.{Message}
 use Rattle.epoch_coordinator.specs.declared.message.Message.TheVariants as messages
 use Rattle.epoch_coordinator.specs.declared.message.Sent.{Sent}
-use Rattle.epoch_coordinator.specs.Tails.{tail_of, runs_of, contains}
-use Rattle.epoch_coordinator.specs.Members.{Leading, MemberRole, MemberState, Stopped, Follower, Leader}
-use Rattle.epoch_coordinator.specs.MemberSteps.{Took, mail, asks, is_another, can_open, chunk_from, raise, acknowledge, send_next, ask_of_leader, ends_in, goes_on, taken}
-use Rattle.replication_laws.specs.Cluster.{Seat, Letter, ClusterState, seat, member, IsMember, put, durable, last_number, numbered, send, letter_in, marked, is_opened}
+use Rattle.epoch_coordinator.specs.Tails.{tail_of}
+use Rattle.epoch_coordinator.specs.Members.{Leading, MemberState, Stopped, Follower, Leader}
+use Rattle.epoch_coordinator.specs.MemberSteps.{Took, mail, asks, is_another, ends_in, goes_on, taken}
+use Rattle.replication_laws.specs.Cluster.{Seat, ClusterState, seat, member, IsMember, durable, last_number, numbered, letter_in, marked}
 use Rattle.replication_laws.specs.Events.{took}
-use Rattle.replication_laws.specs.Soundness.{Tree, LeadsEpoch, MessageHolds, LeaderHolds, RoleHolds, Sound, acked}
-use Rattle.replication_laws.proofs.Logs.{same_tail_is}
+use Rattle.replication_laws.specs.Soundness.{Tree, LeadsEpoch, MessageHolds, Sound, acked}
 use Rattle.replication_laws.proofs.Sounds.{seat_put, seat_else, count_put}
-use Rattle.replication_laws.proofs.Followers.{leads_unique, tail_mark}
-use Rattle.replication_laws.proofs.Leaders.{max_either, raised_here, raised_else}
+use Rattle.replication_laws.proofs.Followers.{leads_unique}
 use Rattle.replication_laws.proofs.Takings.{eq_is}
-use Rattle.replication_laws.proofs.Joined.{open_log}
-use Rattle.settling_laws.specs.Tokens.{OnItsWay, Behind, Exactly, Token, Tells, Is_told, Asks, Gets, Is_shaped, Works, In_step, LeaderToken, Leads, Is_to_open, Running_by, HasTokens, IsStuck}
+use Rattle.settling_laws.specs.Tokens.{OnItsWay, Behind, Exactly, Token, Tells, Is_told, Asks, Gets, Is_shaped, Works, In_step, LeaderToken, Leads, Is_to_open, Running_by, HasTokens}
 use Rattle.settling_laws.proofs.Mails.{way_more, way_behind, way_marked, way_sent, IsOf}
-use Rattle.settling_laws.proofs.Known.{leader_leads, leader_opened, ask_top, ask_next, ask_out}
-use Rattle.settling_laws.proofs.Heard.{either, Fair, FairToLeader, StoppedTook, Still, Goes_on, stopped_taken, FollowerTook, Stays, Has_job, Asks_again, follower_taken, LeaderTook, Quiet, Answers, leader_taken, OpenerTook, Waits_on, Opens, Cannot, opener_taken, promise_stays}
+use Rattle.settling_laws.proofs.Known.{leader_leads}
+use Rattle.settling_laws.proofs.Heard.{Fair, FairToLeader, StoppedTook, Still, Goes_on, stopped_taken, FollowerTook, Stays, Has_job, Asks_again, follower_taken, promise_stays}
 
 -- ---- the others' tokens
 

@@ -1,6 +1,6 @@
 -- A settle in which everyone is up elects a leader.
-use Rattle.std.proofs.Common.{◌≡◌, ℕ, ◌+◌, ◌*◌, ◌<◌, ◌≤◌, ◌≢◌, ◌⊎◌, List, [], ◌∷◌, ◌++◌, length, refl, sym, ap, ◌∙◌, subst, inl, inr, arith, Option, Some, None, Bool, true, false, cond, zero, suc}
-use Rattle.std.specs.Prelude.{◌==◌, ◌&&◌, ◌||◌, nat_lt, map, slice_index_or}
+use Rattle.std.proofs.Common.{◌≡◌, ℕ, ◌+◌, ◌*◌, ◌<◌, ◌≢◌, ◌⊎◌, List, [], ◌∷◌, length, refl, sym, ap, ◌∙◌, subst, inl, inr, arith, Option, Some, None, Bool, true, false, cond, zero, suc}
+use Rattle.std.specs.Prelude.{◌==◌, ◌&&◌, ◌||◌, nat_lt, slice_index_or}
 use Rattle.std.proofs.lemmas.Bool.{cases_eq, cases_Bool, cases_lt}
 use Rattle.chunk_format.specs.declared.chunk.Chunk.{Chunk}
 use Rattle.epoch_coordinator.specs.declared.tail.Tail.{Tail}
@@ -10,20 +10,19 @@ use Rattle.epoch_coordinator.specs.declared.message.Message.{Message}
 use Rattle.epoch_coordinator.specs.declared.message.Message.TheVariants as messages
 use Rattle.epoch_coordinator.specs.declared.message.Sent.{Sent}
 use Rattle.epoch_coordinator.specs.declared.coordinator.Phase.{Phase}
-use Rattle.epoch_coordinator.specs.declared.coordinator.Phase.TheVariants.{Electing, Running}
 use Rattle.epoch_coordinator.specs.Coordinators as coordinators
 use Rattle.epoch_coordinator.specs.Coordinators.{CoordinatorState, Hears, Told, is_told, repliers, tell, to_each, untold_from}
 use Rattle.epoch_coordinator.specs.Members.{MemberRole, MemberState, Stopped, Follower, Leader, is_stopped}
-use Rattle.epoch_coordinator.specs.MemberSteps.{Took, mail, silent, is_another, is_majority, after_stop, heard, says_stopped, finished, finished_by, asks_by, wrote, cut_at, taken}
+use Rattle.epoch_coordinator.specs.MemberSteps.{Took, mail, silent, is_another, is_majority, heard, says_stopped, finished, finished_by, asks_by, wrote, cut_at, taken}
 use Rattle.epoch_coordinator.specs.Scripts.{opened}
-use Rattle.replication_laws.specs.Cluster.{Seat, Letter, ClusterState, seat_in, seat, member, IsMember, last_number, numbered, send, letter_in, marked}
+use Rattle.replication_laws.specs.Cluster.{Seat, ClusterState, seat_in, seat, member, IsMember, last_number, numbered, send, letter_in, marked}
 use Rattle.replication_laws.specs.Events.{took, to_coordinator, nudges_by, member_nudges, nudges}
 use Rattle.replication_laws.specs.Soundness.{Tree, JobHolds, PhaseHolds, ElectingHolds, Sound}
 use Rattle.replication_laws.proofs.Sounds.{seat_put, count_put}
 use Rattle.settling_laws.specs.Settling.{next_job, next_letter}
 use Rattle.settling_laws.specs.Tokens.{OnItsWay, Behind}
 use Rattle.settling_laws.specs.Electing.{Electing_in, HasWords, HasCalls}
-use Rattle.settling_laws.proofs.Mails.{way_more, way_behind, way_marked, way_sent, way_none, IsOf, of_more, of_behind}
+use Rattle.settling_laws.proofs.Mails.{way_more, way_behind, way_marked, way_sent, way_none, IsOf, of_more}
 use Rattle.settling_laws.proofs.Heard.{either, promise_stays}
 use Rattle.settling_laws.proofs.Bringing.{member_is, member_same, seat_same, another_is}
 use Rattle.settling_laws.proofs.Resting.{up_by, idle_by}

@@ -1,38 +1,34 @@
 -- From the nudge to the rest.
-use Rattle.std.proofs.Common.{◌≡◌, ℕ, ◌+◌, ◌<◌, ◌≤◌, ◌≢◌, ◌⊎◌, List, [], ◌∷◌, ◌++◌, length, refl, sym, ap, ◌∙◌, subst, inl, inr, arith, Option, Some, None, Bool, true, false, cond, zero, suc}
-use Rattle.std.specs.Prelude.{slice_index_or}
-use Rattle.std.specs.List.{AllByRecursion}
-use Rattle.std.proofs.lemmas.Bool.{cases_eq, cases_Bool}
-use Rattle.chunk_format.specs.declared.chunk.Chunk.{Chunk}
+use Rattle.std.proofs.Common.{◌≡◌, ℕ, ◌<◌, ◌≢◌, ◌⊎◌, List, [], ◌∷◌, ◌++◌, refl, sym, ap, ◌∙◌, subst, inl, inr, Option, Some, None, true, zero, suc}
+use Rattle.std.proofs.lemmas.Bool.{cases_eq}
 use Rattle.chunk_format.specs.Logs.{Truthful}
 use Rattle.epoch_coordinator.specs.declared.tail.Tail.{Tail}
 use Rattle.epoch_coordinator.specs.declared.message.Message.{Message}
 use Rattle.epoch_coordinator.specs.declared.message.Message.TheVariants as messages
 use Rattle.epoch_coordinator.specs.declared.message.Job.{Job}
 use Rattle.epoch_coordinator.specs.declared.message.Sent.{Sent}
-use Rattle.epoch_coordinator.specs.Tails.{tail_of}
 use Rattle.epoch_coordinator.specs.Coordinators as coordinators
-use Rattle.epoch_coordinator.specs.Members.{Leading, MemberRole, MemberState, Stopped, Follower, Leader}
-use Rattle.epoch_coordinator.specs.MemberSteps.{mail, nudged, nudged_by, finished, taken}
-use Rattle.replication_laws.specs.Cluster.{Seat, Reign, Letter, ClusterState, nobody, seat, member, IsMember, last_number, numbered, send, letter_in, marked, RunsWith, is_opened}
+use Rattle.epoch_coordinator.specs.Members.{MemberRole, Stopped}
+use Rattle.epoch_coordinator.specs.MemberSteps.{mail, finished, taken}
+use Rattle.replication_laws.specs.Cluster.{Reign, ClusterState, seat, member, IsMember, last_number, letter_in, marked, RunsWith, is_opened}
 use Rattle.replication_laws.specs.Events.{IsUp, IsFree, took, comes, performed, to_coordinator, member_nudges, nudges_by, nudges, ClusterStep}
 use Rattle.replication_laws.specs.Events as events
 use Rattle.replication_laws.specs.Properties.{SoundWith}
-use Rattle.replication_laws.specs.Soundness.{Tree, LeadsEpoch, MessageHolds, Sound, IsSound}
+use Rattle.replication_laws.specs.Soundness.{Tree, MessageHolds, Sound, IsSound}
 use Rattle.replication_laws.proofs.Sounds.{SentHolds}
 use Rattle.replication_laws.proofs.Happenings.{letter_holds}
 use Rattle.replication_laws.proofs.Properties.{event_with}
 use Rattle.replication_laws.proofs.Snapshots.{truthful_property}
 use Rattle.replication_laws.proofs.Joined.{committed_begins}
-use Rattle.settling_laws.specs.Settling.{is_up, due_in, next_job, next_letter, Answer, Receipt, Fault, answered, Stage, Jobs, Letters, Rest, Turn, bare, turn, SettleStep, Perform, Nudge, Follow_up, Deliver, Forget, last_turn, with_reigns}
+use Rattle.settling_laws.specs.Settling.{is_up, next_job, next_letter, Receipt, Fault, Letters, Rest, Turn, bare, turn, SettleStep, Perform, Nudge, Follow_up, Deliver, Forget, last_turn, with_reigns}
 use Rattle.settling_laws.specs.Measures.{IsInOrder}
-use Rattle.settling_laws.specs.Tokens.{OnItsWay, Behind, Exactly, Token, Tells, Is_told, Asks, Gets, Is_shaped, Works, In_step, LeaderToken, Leads, Is_to_open, Running_by, HasTokens, IsStuck}
-use Rattle.settling_laws.specs.Clean.{IsReceipt, IsPerformed, CleanStep, CleanSteps, SettlesCleanly, IsLed, It_leads, It_opens, HasMost, IsComplete}
+use Rattle.settling_laws.specs.Tokens.{Running_by, HasTokens, IsStuck}
+use Rattle.settling_laws.specs.Clean.{IsPerformed, CleanStep, CleanSteps, HasMost, IsComplete}
 use Rattle.settling_laws.proofs.Nexts.{JobOf, Of_coordinator, Of_member, job_of, job_is_up, up_is, free_is, due_is}
-use Rattle.settling_laws.proofs.Mails.{way_more, way_behind, way_sent, way_least, due_with, IsOf, of_more, of_behind}
+use Rattle.settling_laws.proofs.Mails.{way_least, due_with}
 use Rattle.settling_laws.proofs.Evented.{comes_apart, performed_apart, free_with, step_order}
 use Rattle.settling_laws.proofs.Ending.{at_rest, is_job}
-use Rattle.settling_laws.proofs.Known.{leader_leads, follows_leader, leads_alone, stopped_idle}
+use Rattle.settling_laws.proofs.Known.{leader_leads, stopped_idle}
 use Rattle.settling_laws.proofs.Bringing.{member_delivers, fair_to_leader}
 use Rattle.settling_laws.proofs.Leading.{leader_delivers}
 use Rattle.settling_laws.proofs.Working.{job_done, quiet_delivers, stopped_delivers, stuck_took, stuck_mail, stuck_heard, CoordinatorTook, Passes, Tells_back, coordinator_took}

@@ -1,39 +1,27 @@
 -- From an election to the rest.
 use Rattle.std.proofs.Common.{◌≡◌, ℕ, ◌+◌, ◌-◌, ◌<◌, ◌≤◌, ◌≢◌, ◌⊎◌, List, [], ◌∷◌, ◌++◌, length, refl, sym, ap, ◌∙◌, subst, inl, inr, arith, Option, Some, None, Bool, true, false, cond, zero, suc}
-use Rattle.std.specs.Prelude.{◌&&◌, ◌==◌, nat_lt, not, map, slice_index_or, slice_set}
+use Rattle.std.specs.Prelude.{◌&&◌, ◌==◌, nat_lt, not, slice_index_or, slice_set}
 use Rattle.std.proofs.lemmas.Bool.{cases_eq, cases_Bool, cases_lt}
 use Rattle.std.proofs.lemmas.List.{get_or-set_same, get_or-set_other}
-use Rattle.chunk_format.specs.Logs.{Truthful}
 use Rattle.epoch_coordinator.specs.declared.tail.Tail.{Tail}
-use Rattle.epoch_coordinator.specs.declared.message.Job.{Job}
-use Rattle.epoch_coordinator.specs.declared.message.Job.TheVariants.{Write, Cut, Promise, Epoch}
-use Rattle.epoch_coordinator.specs.declared.message.Message.{Message}
 use Rattle.epoch_coordinator.specs.declared.message.Message.TheVariants as messages
 use Rattle.epoch_coordinator.specs.declared.message.Sent.{Sent}
 use Rattle.epoch_coordinator.specs.declared.coordinator.Phase.{Phase}
 use Rattle.epoch_coordinator.specs.declared.coordinator.Phase.TheVariants.{Electing, Running}
 use Rattle.epoch_coordinator.specs.declared.coordinator.StoppedDid.TheVariants as did
-use Rattle.epoch_coordinator.specs.Tails.{tail_of}
-use Rattle.epoch_coordinator.specs.Members.{Leading, MemberRole, MemberState, Stopped, Follower, Leader}
-use Rattle.epoch_coordinator.specs.MemberSteps.{Took, mail, is_another, is_majority, nudged, nudged_by, finished, finished_by, asks_by, wrote, cut_at, taken}
-use Rattle.epoch_coordinator.specs.Coordinators.{CoordinatorState, Hears, hears, stopped, stopped_by, told_before, told_in_epoch, counted, tell, first_of, is_told, repliers, leader_of, electors_of, to_each, others_from, opening}
+use Rattle.epoch_coordinator.specs.Members.{MemberRole, Stopped, Follower, Leader}
+use Rattle.epoch_coordinator.specs.MemberSteps.{mail, is_another, is_majority}
+use Rattle.epoch_coordinator.specs.Coordinators.{CoordinatorState, Hears, hears, stopped, stopped_by, told_before, told_in_epoch, tell, first_of, is_told, repliers, leader_of, electors_of, to_each, others_from, opening}
 use Rattle.epoch_coordinator.specs.Scripts.{opened}
-use Rattle.replication_laws.specs.Cluster.{Seat, Reign, Letter, ClusterState, nobody, seat, member, IsMember, durable, reign, last_number, numbered, send, letter_in, marked, is_opened, RunsWith}
-use Rattle.replication_laws.specs.Events.{IsFree, took, comes, performed, to_coordinator}
-use Rattle.replication_laws.specs.Soundness.{Tree, LeadsEpoch, LeaderHolds, RoleHolds, PhaseHolds, ElectingHolds, JobHolds, LineHolds, IsOfFollower, IsOfLeader, Sound}
+use Rattle.replication_laws.specs.Cluster.{Seat, ClusterState, nobody, seat, member, IsMember, reign, last_number, numbered, letter_in, marked}
+use Rattle.replication_laws.specs.Events.{to_coordinator}
+use Rattle.replication_laws.specs.Soundness.{Tree, LeadsEpoch, RoleHolds, PhaseHolds, Sound}
 use Rattle.replication_laws.proofs.Takings.{eq_is, eq_made}
-use Rattle.settling_laws.specs.Settling.{is_up, next_job, next_letter, Answer, Receipt, Fault, Stage, Jobs, Letters, Rest, Turn, bare, turn, SettleStep, Perform, Nudge, Follow_up, Deliver, Forget, last_turn, with_reigns}
-use Rattle.settling_laws.specs.Measures.{IsInOrder}
-use Rattle.settling_laws.specs.Tokens.{OnItsWay, Behind, Exactly, Token, Tells, Is_told, LeaderToken, Leads, Is_to_open, Running_by, HasTokens}
+use Rattle.settling_laws.specs.Tokens.{OnItsWay, Behind, Exactly, Token, Tells, Is_told, Is_to_open, HasTokens}
 use Rattle.settling_laws.specs.Electing.{Electing_in, HasWords, IsLost}
-use Rattle.settling_laws.specs.Clean.{IsPerformed, CleanStep, CleanSteps}
-use Rattle.settling_laws.proofs.Nexts.{JobOf, Of_coordinator, Of_member, job_of, up_is, free_is, due_is}
 use Rattle.settling_laws.proofs.Mails.{way_more, way_behind, way_marked, way_sent, IsOf}
-use Rattle.settling_laws.proofs.Ending.{at_rest}
-use Rattle.settling_laws.proofs.Heard.{either, promise_stays}
-use Rattle.settling_laws.proofs.Bringing.{member_is, member_same, seat_same, another_is}
-use Rattle.settling_laws.proofs.Working.{CoordinatorTook, Passes, Tells_back, coordinator_took}
-use Rattle.replication_laws.proofs.Sounds.{seat_put, count_put}
+use Rattle.settling_laws.proofs.Heard.{either}
+use Rattle.settling_laws.proofs.Bringing.{another_is}
 
 -- ---- while it elects, who promised the epoch is stopped
 

@@ -1,19 +1,19 @@
 -- What a member that promised the running epoch does with a message.
-use Rattle.std.proofs.Common.{◌≡◌, ℕ, ◌+◌, ◌<◌, ◌≤◌, ◌≢◌, ◌⊎◌, List, [], ◌∷◌, ◌++◌, length, refl, sym, ap, ◌∙◌, subst, inl, inr, arith, Option, Some, None, Bool, true, false, cond, zero, suc}
-use Rattle.std.specs.Prelude.{◌&&◌, ◌||◌, ◌==◌, nat_lt, nat_le}
+use Rattle.std.proofs.Common.{◌≡◌, ℕ, ◌<◌, ◌≤◌, List, refl, sym, ap, ◌∙◌, subst, inl, inr, arith, Option, Some, None, Bool, true, false, cond}
+use Rattle.std.specs.Prelude.{◌&&◌, ◌||◌, ◌==◌, nat_lt}
 use Rattle.chunk_format.specs.declared.chunk.Chunk.{Chunk}
 use Rattle.chunk_format.specs.Logs.{end_of, opening_chunk}
 use Rattle.epoch_coordinator.specs.declared.tail.Tail.{Tail}
 use Rattle.epoch_coordinator.specs.declared.tail.Run.{Run}
 use Rattle.epoch_coordinator.specs.declared.message.Job.{Job}
-use Rattle.epoch_coordinator.specs.declared.message.Job.TheVariants.{Write, Cut, Promise, Epoch}
+use Rattle.epoch_coordinator.specs.declared.message.Job.TheVariants.{Write, Cut, Promise}
 use Rattle.epoch_coordinator.specs.declared.message.Message.{Message}
 use Rattle.epoch_coordinator.specs.declared.message.Message.TheVariants as messages
 use Rattle.epoch_coordinator.specs.Tails.{tail_of, runs_of, contains}
 use Rattle.epoch_coordinator.specs.Members.{Leading, MemberRole, MemberState, Stopped, Follower, Leader, is_stopped}
 use Rattle.epoch_coordinator.specs.MemberSteps.{Took, silent, says, says_stopped, chunk_from, acknowledge, send_next, asks, epoch_of, is_another, names_another, after_stop, can_open, new_leading, stamp_at, after_open, after_follow, ask_of_leader, after_ask, ends_in, kept_end, after_shape, goes_on, after_append, heard, is_later_stop, taken}
 use Rattle.replication_laws.proofs.Takings.{both_are, eq_is, eq_made}
-use Rattle.replication_laws.proofs.Walks.{or_cases, or_left}
+use Rattle.replication_laws.proofs.Walks.{or_cases}
 
 pub either : {A : Type 0} (P : A → Type 0) (b : Bool) (x y : A) → (b ≡ true → P x) → (b ≡ false → P y) → P (cond b x y)
 either P true x y p q = p refl

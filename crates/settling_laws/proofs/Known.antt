@@ -1,29 +1,26 @@
 -- What soundness says of who has promised the running epoch.
-use Rattle.std.proofs.Common.{◌≡◌, ℕ, ◌+◌, ◌<◌, ◌≤◌, ◌≢◌, ◌⊎◌, List, [], ◌∷◌, ◌++◌, length, refl, sym, ap, ◌∙◌, subst, inl, inr, arith, Option, Some, None, Bool, true, false, cond, zero, suc}
-use Rattle.std.specs.Prelude.{◌&&◌, ◌||◌, ◌==◌, nat_lt, nat_le}
-use Rattle.std.specs.Cmp.Lexicographic.{pointwise}
-use Rattle.std.proofs.lemmas.Bool.{cases_eq, cases_Bool}
+use Rattle.std.proofs.Common.{◌≡◌, ℕ, ◌≤◌, ◌⊎◌, List, [], ◌∷◌, ◌++◌, refl, sym, ap, ◌∙◌, subst, inl, inr, arith, Option, Some, None, Bool, true, false, cond}
+use Rattle.std.specs.Prelude.{◌&&◌, ◌==◌, nat_le}
+use Rattle.std.proofs.lemmas.Bool.{cases_Bool}
 use Rattle.std.proofs.lemmas.List.{append-nil}
 use Rattle.chunk_format.specs.declared.chunk.Chunk.{Chunk}
 use Rattle.chunk_format.specs.declared.chunk.ChunkKind.{ChunkKind}
 use Rattle.chunk_format.specs.declared.chunk.ChunkKind.TheVariants.{User, Delta, Snapshot}
-use Rattle.chunk_format.specs.Chunks.{entry_bytes, entries_bytes, end_of_chunk}
+use Rattle.chunk_format.specs.Chunks.{entry_bytes, entries_bytes}
 use Rattle.chunk_format.specs.Logs.{GoesOn, end_of, last_epoch, IsLog, HasRun, Truthful, snapshot_entry_of}
-use Rattle.chunk_format.proofs.BeginLaws.{goes_on}
 use Rattle.chunk_format.proofs.LinkLaws.{linked_front, linked_behind}
 use Rattle.epoch_coordinator.specs.declared.tail.Tail.{Tail}
 use Rattle.epoch_coordinator.specs.declared.message.Job.{Job}
 use Rattle.epoch_coordinator.specs.declared.message.Job.TheVariants.{Write, Cut, Promise, Epoch}
-use Rattle.epoch_coordinator.specs.declared.coordinator.Phase.{Phase}
 use Rattle.epoch_coordinator.specs.declared.coordinator.Phase.TheVariants.{Running}
 use Rattle.epoch_coordinator.specs.Tails.{tail_of, same_tail, runs_of, has_run, contains}
-use Rattle.epoch_coordinator.specs.Members.{Leading, MemberRole, MemberState, Stopped, Follower, Leader}
+use Rattle.epoch_coordinator.specs.Members.{Leading, MemberState, Stopped, Follower, Leader}
 use Rattle.epoch_coordinator.specs.MemberSteps.{chunk_from, ends_in, same_bytes, is_true_after}
 use Rattle.epoch_coordinator.specs.MemberSteps as steps
-use Rattle.replication_laws.specs.Cluster.{ClusterState, seat, member, IsMember, durable, is_opened}
-use Rattle.replication_laws.specs.Soundness.{Tree, LeadsEpoch, HasReign, IsMark, TailMark, AppendHolds, IsQuiet, JobHolds, LeaderHolds, RoleHolds, LeaderLine, LineHolds, PhaseHolds, Sound}
-use Rattle.replication_laws.proofs.Logs.{goes_one, same_tail_is, run_front, run_gives, push_follows, front_epoch}
-use Rattle.replication_laws.proofs.Walks.{or_left, or_right, contained, runs_to, runs_from, found_at}
+use Rattle.replication_laws.specs.Cluster.{ClusterState, seat, member, IsMember, is_opened}
+use Rattle.replication_laws.specs.Soundness.{Tree, LeadsEpoch, TailMark, AppendHolds, IsQuiet, JobHolds, RoleHolds, LeaderLine, LineHolds, PhaseHolds, Sound}
+use Rattle.replication_laws.proofs.Logs.{same_tail_is, run_front, run_gives, push_follows}
+use Rattle.replication_laws.proofs.Walks.{or_right, contained, runs_to, runs_from, found_at}
 use Rattle.replication_laws.proofs.Carry.{is_tree}
 use Rattle.replication_laws.proofs.Followers.{leads_unique, tail_mark, append_same}
 use Rattle.replication_laws.proofs.Leaders.{ask_sends}

@@ -1,7 +1,7 @@
 -- A delivery to the leader keeps the tokens.
-use Rattle.std.proofs.Common.{◌≡◌, ℕ, ◌+◌, ◌-◌, ◌<◌, ◌≤◌, ◌≢◌, ◌⊎◌, List, [], ◌∷◌, ◌++◌, length, refl, sym, ap, ◌∙◌, subst, inl, inr, arith, Option, Some, None, Bool, true, false, cond, zero, suc}
-use Rattle.std.specs.Prelude.{◌&&◌, ◌==◌, nat_lt, nat_le, not, max, slice_index}
-use Rattle.std.proofs.lemmas.Bool.{cases_eq, cases_Bool, cases_lt}
+use Rattle.std.proofs.Common.{◌≡◌, ℕ, ◌<◌, ◌≤◌, ◌≢◌, ◌⊎◌, List, length, refl, sym, ap, ◌∙◌, subst, inl, inr, arith, Option, Some, None, Bool, true, false, cond, zero, suc}
+use Rattle.std.specs.Prelude.{◌==◌, max, slice_index}
+use Rattle.std.proofs.lemmas.Bool.{cases_eq, cases_lt}
 use Rattle.chunk_format.specs.declared.chunk.Chunk.{Chunk}
 use Rattle.chunk_format.specs.Logs.{end_of, last_epoch, Truthful}
 use Rattle.epoch_coordinator.specs.declared.tail.Tail.{Tail}
@@ -10,21 +10,21 @@ use Rattle.epoch_coordinator.specs.declared.message.Message.{Message}
 use Rattle.epoch_coordinator.specs.declared.message.Message.TheVariants as messages
 use Rattle.epoch_coordinator.specs.declared.message.Sent.{Sent}
 use Rattle.epoch_coordinator.specs.Tails.{tail_of, runs_of, contains}
-use Rattle.epoch_coordinator.specs.Members.{Leading, MemberRole, MemberState, Stopped, Follower, Leader}
+use Rattle.epoch_coordinator.specs.Members.{Leading, MemberState, Follower, Leader}
 use Rattle.epoch_coordinator.specs.MemberSteps.{Took, mail, says, is_another, can_open, chunk_from, raise, acknowledge, send_next, ask_of_leader, ends_in, goes_on, taken}
-use Rattle.replication_laws.specs.Cluster.{Seat, Letter, ClusterState, seat, member, IsMember, durable, last_number, numbered, letter_in, marked, is_opened}
+use Rattle.replication_laws.specs.Cluster.{ClusterState, member, IsMember, last_number, numbered, letter_in, marked, is_opened}
 use Rattle.replication_laws.specs.Events.{took}
 use Rattle.replication_laws.specs.Soundness.{Tree, TailMark, LeadsEpoch, MessageHolds, LeaderHolds, RoleHolds, Sound, acked}
 use Rattle.replication_laws.proofs.Logs.{same_tail_is}
 use Rattle.replication_laws.proofs.Followers.{tail_mark}
-use Rattle.replication_laws.proofs.Leaders.{max_either, raised_here, raised_else}
-use Rattle.replication_laws.proofs.Takings.{eq_is, eq_made}
+use Rattle.replication_laws.proofs.Leaders.{raised_here, raised_else}
+use Rattle.replication_laws.proofs.Takings.{eq_made}
 use Rattle.replication_laws.proofs.Joined.{open_log}
-use Rattle.settling_laws.specs.Tokens.{OnItsWay, Behind, Exactly, Token, Tells, Is_told, Asks, Gets, Is_shaped, Works, In_step, LeaderToken, Leads, Is_to_open, Running_by, HasTokens, IsStuck}
+use Rattle.settling_laws.specs.Tokens.{OnItsWay, Behind, Exactly, Token, Tells, Asks, Gets, Is_shaped, In_step, LeaderToken, Leads, Is_to_open, Running_by, HasTokens, IsStuck}
 use Rattle.settling_laws.proofs.Mails.{way_more, way_behind, way_marked, way_sent, IsOf}
 use Rattle.settling_laws.proofs.Known.{leader_leads, leader_opened, ask_top, ask_next, ask_out}
 use Rattle.settling_laws.proofs.Heard.{either, FairToLeader, LeaderTook, Quiet, Answers, leader_taken, OpenerTook, Waits_on, Opens, Cannot, opener_taken}
-use Rattle.settling_laws.proofs.Bringing.{others_on, member_is, member_same, runs_on, took_tokens, fair_to_leader, another_is}
+use Rattle.settling_laws.proofs.Bringing.{others_on, member_is, runs_on, took_tokens, fair_to_leader, another_is}
 
 -- ---- what a leader that is asked counts
 

@@ -1,6 +1,6 @@
 -- Messages on their way, over a delivery and what is sent.
-use Rattle.std.proofs.Common.{◌≡◌, ℕ, ◌+◌, ◌<◌, ◌≤◌, ◌⊎◌, List, [], ◌∷◌, ◌++◌, length, refl, sym, ap, ◌∙◌, subst, inl, inr, arith, Option, Some, None, Bool, true, false, cond, zero, suc}
-use Rattle.std.specs.Prelude.{◌&&◌, ◌==◌, not, nat_lt}
+use Rattle.std.proofs.Common.{◌≡◌, ℕ, ◌+◌, ◌<◌, ◌≤◌, ◌⊎◌, List, [], ◌∷◌, ◌++◌, length, refl, sym, ◌∙◌, subst, inl, inr, arith, Some, None, Bool, true, false, cond, zero, suc}
+use Rattle.std.specs.Prelude.{◌==◌, nat_lt}
 use Rattle.epoch_coordinator.specs.declared.message.Sent.{Sent}
 use Rattle.replication_laws.specs.Cluster.{Letter, Reign, ClusterState, last_number, numbered, letter_in, marked}
 use Rattle.settling_laws.specs.Settling.{is_up, is_due, due_in, with_reigns}

@@ -1,8 +1,7 @@
 -- Before the nudge the leader stays, and the nudge gives everyone a token.
-use Rattle.std.proofs.Common.{◌≡◌, ℕ, ◌+◌, ◌<◌, ◌≤◌, ◌≢◌, ◌⊎◌, List, [], ◌∷◌, ◌++◌, length, refl, sym, ap, ◌∙◌, subst, inl, inr, arith, Option, Some, None, Bool, true, false, cond, zero, suc}
+use Rattle.std.proofs.Common.{◌≡◌, ℕ, ◌<◌, ◌≤◌, ◌≢◌, List, [], ◌∷◌, length, refl, sym, ap, ◌∙◌, subst, inl, inr, arith, Option, Some, None, Bool, true, zero, suc}
 use Rattle.std.specs.Prelude.{slice_index_or}
-use Rattle.std.proofs.lemmas.Bool.{cases_eq, cases_Bool}
-use Rattle.chunk_format.specs.declared.chunk.Chunk.{Chunk}
+use Rattle.std.proofs.lemmas.Bool.{cases_eq}
 use Rattle.chunk_format.specs.Logs.{Truthful}
 use Rattle.epoch_coordinator.specs.declared.message.Job.{Job}
 use Rattle.epoch_coordinator.specs.declared.message.Job.TheVariants.{Write, Cut, Promise, Epoch}
@@ -10,24 +9,23 @@ use Rattle.epoch_coordinator.specs.declared.message.Message.TheVariants as messa
 use Rattle.epoch_coordinator.specs.declared.message.Sent.{Sent}
 use Rattle.epoch_coordinator.specs.Tails.{tail_of}
 use Rattle.epoch_coordinator.specs.Coordinators as coordinators
-use Rattle.epoch_coordinator.specs.Members.{Leading, MemberRole, MemberState, Stopped, Follower, Leader}
+use Rattle.epoch_coordinator.specs.Members.{MemberRole, MemberState, Stopped, Follower, Leader}
 use Rattle.epoch_coordinator.specs.MemberSteps.{Took, mail, nudged, nudged_by, written, wrote, finished, finished_by}
 use Rattle.replication_laws.specs.Cluster.{Seat, Reign, Letter, ClusterState, nobody, seat, member, IsMember, last_number, numbered, send, RunsWith}
 use Rattle.replication_laws.specs.Events.{took, performed, member_nudges, nudges_by, nudges}
 use Rattle.replication_laws.specs.Events as events
 use Rattle.replication_laws.specs.Properties.{SoundWith}
-use Rattle.replication_laws.specs.Soundness.{Tree, IsOfLeader, LeaderLine, LineHolds, RoleHolds, Sound}
+use Rattle.replication_laws.specs.Soundness.{Tree, IsOfLeader, LeaderLine, LineHolds, Sound}
 use Rattle.replication_laws.proofs.Properties.{event_with}
 use Rattle.replication_laws.proofs.Snapshots.{truthful_property}
-use Rattle.settling_laws.specs.Settling.{next_job, next_letter, Answer, Receipt, Fault, Stage, Jobs, Letters, Rest, Turn, bare, turn, SettleStep, Perform, Nudge, Follow_up, Deliver, Forget, last_turn, with_reigns}
+use Rattle.settling_laws.specs.Settling.{next_job, Receipt, Fault, Jobs, Rest, Turn, bare, turn, SettleStep, Perform, Nudge, Follow_up, Deliver, Forget, last_turn, with_reigns}
 use Rattle.settling_laws.specs.Measures.{Rising, IsInOrder}
-use Rattle.settling_laws.specs.Tokens.{OnItsWay, Behind, Exactly, Token, Tells, Is_told, Asks, Gets, Is_shaped, Works, In_step, LeaderToken, Leads, Is_to_open, Running_by, HasTokens, IsStuck}
+use Rattle.settling_laws.specs.Tokens.{OnItsWay, Behind, Exactly, Token, Tells, Asks, LeaderToken, Leads, Is_to_open, Running_by, HasTokens}
 use Rattle.settling_laws.specs.Clean.{IsPerformed, CleanStep, CleanSteps, IsLed, It_leads, It_opens, HasMost, IsComplete}
 use Rattle.settling_laws.proofs.Nexts.{JobOf, Of_coordinator, Of_member, job_of, job_is_up}
 use Rattle.settling_laws.proofs.Mails.{way_more, way_behind, way_sent, IsOf, of_more, of_behind}
 use Rattle.settling_laws.proofs.Evented.{performed_apart, step_order}
 use Rattle.settling_laws.proofs.Ending.{is_job}
-use Rattle.settling_laws.proofs.Ordered.{rising_numbered}
 use Rattle.settling_laws.proofs.Nexts.{rising_last}
 use Rattle.settling_laws.proofs.Known.{follows_leader, leads_alone, stopped_idle}
 use Rattle.settling_laws.proofs.Bringing.{member_is, member_same, runs_on}

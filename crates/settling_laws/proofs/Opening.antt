@@ -1,21 +1,20 @@
 -- Where everyone is up an election ends in an open leader, or in one that can't open.
-use Rattle.std.proofs.Common.{◌≡◌, ℕ, ◌+◌, ◌<◌, ◌≤◌, ◌≢◌, ◌⊎◌, List, [], ◌∷◌, ◌++◌, length, refl, sym, ap, ◌∙◌, subst, inl, inr, arith, Option, Some, None, Bool, true, false, zero, suc}
+use Rattle.std.proofs.Common.{◌≡◌, ℕ, ◌<◌, ◌⊎◌, List, [], ◌∷◌, ◌++◌, length, refl, sym, ap, ◌∙◌, subst, inl, inr, arith, Option, Some, None, true, false, zero, suc}
 use Rattle.std.proofs.lemmas.Bool.{cases_eq}
 use Rattle.chunk_format.specs.Logs.{Truthful}
 use Rattle.epoch_coordinator.specs.declared.message.Message.{Message}
 use Rattle.epoch_coordinator.specs.declared.message.Message.TheVariants as messages
 use Rattle.epoch_coordinator.specs.declared.message.Sent.{Sent}
-use Rattle.epoch_coordinator.specs.declared.tail.Tail.{Tail}
-use Rattle.epoch_coordinator.specs.Members.{MemberState, Stopped, Leader}
+use Rattle.epoch_coordinator.specs.Members.{Stopped}
 use Rattle.epoch_coordinator.specs.MemberSteps.{Took, finished, taken}
-use Rattle.replication_laws.specs.Cluster.{Seat, Reign, ClusterState, seat_in, seat, member, IsMember, last_number, send, letter_in, marked, is_opened, RunsWith}
+use Rattle.replication_laws.specs.Cluster.{Seat, Reign, ClusterState, seat, member, IsMember, last_number, send, letter_in, marked, is_opened, RunsWith}
 use Rattle.replication_laws.specs.Events.{IsFree, took, comes, begins, performed, to_coordinator, nudges}
 use Rattle.replication_laws.specs.Properties.{SoundWith}
 use Rattle.replication_laws.proofs.Sounds.{seat_put, count_put}
-use Rattle.settling_laws.specs.Settling.{is_up, next_job, next_letter, Answer, Receipt, Fault, answered, Stage, Jobs, Letters, Rest, Turn, bare, turn, SettleStep, Perform, Nudge, Follow_up, Deliver, Forget, last_turn, with_reigns}
+use Rattle.settling_laws.specs.Settling.{is_up, next_job, next_letter, Answer, Receipt, Fault, answered, Jobs, Letters, Rest, Turn, bare, turn, SettleStep, Perform, Nudge, Follow_up, Deliver, Forget, last_turn, with_reigns}
 use Rattle.settling_laws.specs.Measures.{IsInOrder}
-use Rattle.settling_laws.specs.Tokens.{Running_by, HasTokens, IsStuck}
-use Rattle.settling_laws.specs.Electing.{Electing_in, Elects_next, HasWords, HasCalls, IsLost}
+use Rattle.settling_laws.specs.Tokens.{Running_by, IsStuck}
+use Rattle.settling_laws.specs.Electing.{Electing_in, Elects_next, HasCalls, IsLost}
 use Rattle.settling_laws.specs.Clean.{IsPerformed, CleanStep, CleanSteps}
 use Rattle.settling_laws.proofs.Nexts.{JobOf, Of_coordinator, Of_member, job_of, up_is, free_is, due_is}
 use Rattle.settling_laws.proofs.Mails.{due_with}

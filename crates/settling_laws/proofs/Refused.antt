@@ -1,10 +1,9 @@
 -- What a settle leaves, and steps that are none of one.
-use Rattle.std.proofs.Common.{◌≡◌, ◌≢◌, ℕ, List, [], ◌∷◌, refl, sym, ap, ◌∙◌, subst, Option, Some, None, Bool, true, false, zero, suc}
-use Rattle.epoch_coordinator.specs.declared.message.Job.TheVariants.{Promise}
+use Rattle.std.proofs.Common.{◌≡◌, ◌≢◌, ℕ, List, [], ◌∷◌, refl, sym, ap, ◌∙◌, subst, None, true, false}
 use Rattle.replication_laws.specs.Cluster.{ClusterState, seat, send}
 use Rattle.replication_laws.specs.Events.{nudges}
-use Rattle.settling_laws.specs.Settling.{next_job, next_letter, Answer, Receipt, Fault, answered, Stage, Jobs, Letters, Rest, Turn, bare, turn, SettleStep, Perform, Nudge, Follow_up, Deliver, Forget, Stepping, last_turn, Settling, Settles}
-use Rattle.settling_laws.specs.Literals.{alone, a_stop, waiting, delivered, calm, busy}
+use Rattle.settling_laws.specs.Settling.{next_job, Receipt, Fault, answered, Stage, Jobs, Letters, Rest, Turn, turn, SettleStep, Perform, Nudge, Follow_up, Deliver, Forget, Stepping, last_turn, Settles}
+use Rattle.settling_laws.specs.Literals.{alone, waiting, delivered, calm, busy}
 use Rattle.settling_laws.proofs.Ending.{at_rest}
 
 -- ---- what is left

@@ -1,20 +1,20 @@
 -- At rest all that the leader has is committed.
-use Rattle.std.proofs.Common.{◌≡◌, ℕ, ◌+◌, ◌*◌, ◌<◌, ◌≤◌, ◌≢◌, ◌⊎◌, List, [], ◌∷◌, ◌++◌, length, refl, sym, ap, ◌∙◌, subst, inl, inr, arith, Option, Some, None, Bool, true, false, cond, zero, suc}
+use Rattle.std.proofs.Common.{◌≡◌, ℕ, ◌+◌, ◌*◌, ◌<◌, ◌≤◌, ◌≢◌, List, [], ◌∷◌, ◌++◌, length, refl, sym, ap, ◌∙◌, subst, inl, inr, arith, Option, Some, None, Bool, true, false, cond, zero, suc}
 use Rattle.std.specs.Prelude.{◌&&◌, ◌==◌, nat_lt, nat_le, slice_index_or}
 use Rattle.std.proofs.lemmas.Bool.{cases_eq, cases_Bool}
 use Rattle.std.proofs.lemmas.List.{append-nil}
 use Rattle.chunk_format.specs.declared.chunk.Chunk.{Chunk}
 use Rattle.chunk_format.specs.Chunks.{end_of_chunk}
-use Rattle.chunk_format.specs.Logs.{GoesOn, end_of, last_epoch, IsLog}
+use Rattle.chunk_format.specs.Logs.{GoesOn, end_of, last_epoch}
 use Rattle.chunk_format.proofs.LinkLaws.{end_push, epoch_push}
 use Rattle.epoch_coordinator.specs.declared.message.Message.TheVariants as messages
 use Rattle.epoch_coordinator.specs.declared.message.Job.{Job}
 use Rattle.epoch_coordinator.specs.Tails.{tail_of}
-use Rattle.epoch_coordinator.specs.Members.{Leading, MemberRole, MemberState, Stopped, Follower, Leader, job_chunks, role_chunks, sequence_of}
-use Rattle.epoch_coordinator.specs.MemberSteps.{mail, reaching, is_majority, majority_has, commit_from, commit_by, commit_end}
-use Rattle.replication_laws.specs.Majorities.{votes, IsMajority, is_voter}
-use Rattle.replication_laws.specs.Cluster.{Seat, ClusterState, seat, member, IsMember, durable, is_opened, RunsWith}
-use Rattle.replication_laws.specs.Confirms.{Stands, Awaits}
+use Rattle.epoch_coordinator.specs.Members.{Leading, MemberRole, MemberState, Leader, job_chunks, role_chunks, sequence_of}
+use Rattle.epoch_coordinator.specs.MemberSteps.{mail, reaching, majority_has, commit_from, commit_by, commit_end}
+use Rattle.replication_laws.specs.Majorities.{votes}
+use Rattle.replication_laws.specs.Cluster.{ClusterState, seat, member, IsMember, is_opened, RunsWith}
+use Rattle.replication_laws.specs.Confirms.{Awaits}
 use Rattle.replication_laws.specs.Soundness as laws
 use Rattle.replication_laws.specs.Soundness.{Tree, LeaderLine, LineHolds, LeaderHolds, RoleHolds, LeadsEpoch, Sound, IsSound, acked, IsCommitted}
 use Rattle.replication_laws.proofs.Logs.{Ending, Is_empty, Ends_with, ending, front_end}
@@ -22,11 +22,11 @@ use Rattle.replication_laws.proofs.Takings.{eq_made}
 use Rattle.replication_laws.proofs.Joined.{open_log}
 use Rattle.replication_laws.proofs.Claims.{open_sequence_log}
 use Rattle.settling_laws.specs.Settling.{is_up, next_job, next_letter}
-use Rattle.settling_laws.specs.Tokens.{OnItsWay, Behind, Exactly, Token, Tells, Is_told, Asks, Gets, Is_shaped, Works, In_step, LeaderToken, Leads, Is_to_open, Running_by, HasTokens}
+use Rattle.settling_laws.specs.Tokens.{Behind, Exactly, Token, Tells, Is_told, Asks, Gets, Is_shaped, Works, In_step, LeaderToken, Leads, Is_to_open, Running_by, HasTokens}
 use Rattle.settling_laws.specs.Clean.{HasMost, IsComplete}
 use Rattle.settling_laws.proofs.Nexts.{is_up_by, free_is}
 use Rattle.settling_laws.proofs.Mails.{way_none}
-use Rattle.settling_laws.proofs.Known.{leader_leads, leader_opened}
+use Rattle.settling_laws.proofs.Known.{leader_opened}
 
 -- ---- at rest each has acknowledged all
 

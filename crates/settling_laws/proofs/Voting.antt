@@ -1,5 +1,5 @@
 -- A settle in which an epoch is elected.
-use Rattle.std.proofs.Common.{◌≡◌, ℕ, ◌+◌, ◌<◌, ◌≤◌, ◌≢◌, ◌⊎◌, List, [], ◌∷◌, ◌++◌, length, refl, sym, ap, ◌∙◌, subst, inl, inr, arith, Option, Some, None, Bool, true, false, cond, zero, suc}
+use Rattle.std.proofs.Common.{◌≡◌, ℕ, ◌<◌, ◌≢◌, ◌⊎◌, List, [], ◌∷◌, ◌++◌, length, refl, sym, ap, ◌∙◌, subst, inl, inr, arith, Option, Some, None, true, zero, suc}
 use Rattle.std.specs.Prelude.{slice_index_or}
 use Rattle.std.proofs.lemmas.Bool.{cases_eq}
 use Rattle.chunk_format.specs.declared.chunk.Chunk.{Chunk}
@@ -15,26 +15,26 @@ use Rattle.epoch_coordinator.specs.Tails.{tail_of}
 use Rattle.epoch_coordinator.specs.Coordinators as coordinators
 use Rattle.epoch_coordinator.specs.Coordinators.{CoordinatorState}
 use Rattle.epoch_coordinator.specs.Members.{MemberRole, MemberState, Stopped, Follower, Leader}
-use Rattle.epoch_coordinator.specs.MemberSteps.{Took, mail, nudged, nudged_by, finished, finished_by, asks_by, wrote, cut_at, taken}
-use Rattle.replication_laws.specs.Cluster.{Seat, Reign, Letter, ClusterState, seat, member, IsMember, last_number, numbered, send, letter_in, marked, RunsWith}
+use Rattle.epoch_coordinator.specs.MemberSteps.{Took, mail, nudged_by, finished, finished_by, asks_by, wrote, cut_at, taken}
+use Rattle.replication_laws.specs.Cluster.{Seat, Reign, ClusterState, seat, member, IsMember, last_number, numbered, send, letter_in, marked, RunsWith}
 use Rattle.replication_laws.specs.Events.{IsFree, took, comes, begins, performed, to_coordinator, nudges, ClusterStep}
 use Rattle.replication_laws.specs.Events as events
 use Rattle.replication_laws.specs.Properties.{SoundWith}
 use Rattle.replication_laws.specs.Soundness.{Sound, Tree}
 use Rattle.replication_laws.proofs.Properties.{event_with}
 use Rattle.replication_laws.proofs.Snapshots.{truthful_property}
-use Rattle.replication_laws.proofs.Sounds.{seat_put, count_put}
-use Rattle.settling_laws.specs.Settling.{is_up, next_job, next_letter, Answer, Receipt, Fault, answered, Stage, Jobs, Letters, Rest, Turn, bare, turn, SettleStep, Perform, Nudge, Follow_up, Deliver, Forget, last_turn, with_reigns}
+use Rattle.replication_laws.proofs.Sounds.{count_put}
+use Rattle.settling_laws.specs.Settling.{is_up, next_job, Receipt, Fault, Stage, Jobs, Letters, Rest, Turn, bare, turn, SettleStep, Perform, Nudge, Follow_up, Deliver, Forget, last_turn, with_reigns}
 use Rattle.settling_laws.specs.Measures.{IsInOrder}
-use Rattle.settling_laws.specs.Tokens.{OnItsWay, Behind, Running_by, HasTokens, IsStuck}
+use Rattle.settling_laws.specs.Tokens.{OnItsWay, Behind, HasTokens}
 use Rattle.settling_laws.specs.Electing.{Electing_in, Elects_next, HasWords, IsLost}
 use Rattle.settling_laws.specs.Clean.{IsPerformed, CleanStep, CleanSteps, HasMost, IsComplete}
 use Rattle.settling_laws.proofs.Nexts.{JobOf, Of_coordinator, Of_member, job_of, job_is_up, up_is, free_is, due_is}
 use Rattle.settling_laws.proofs.Mails.{way_more, way_behind, way_marked, way_sent, IsOf}
 use Rattle.settling_laws.proofs.Evented.{comes_apart, performed_apart, free_with, step_order}
-use Rattle.settling_laws.proofs.Ending.{at_rest, is_job}
+use Rattle.settling_laws.proofs.Ending.{at_rest}
 use Rattle.settling_laws.proofs.Heard.{promise_stays}
-use Rattle.settling_laws.proofs.Bringing.{member_is, member_same, seat_same}
+use Rattle.settling_laws.proofs.Bringing.{member_is, seat_same}
 use Rattle.settling_laws.proofs.Working.{CoordinatorTook, Passes, Tells_back, coordinator_took}
 use Rattle.settling_laws.proofs.Completing.{Going, Onward, Goes, Ends, onward, runs_of, run_complete}
 use Rattle.settling_laws.proofs.Nudging.{nudged_is}

@@ -1,8 +1,7 @@
 -- A finished job, and a delivery to the coordinator, keep the tokens.
-use Rattle.std.proofs.Common.{◌≡◌, ℕ, ◌+◌, ◌<◌, ◌≤◌, ◌≢◌, ◌⊎◌, List, [], ◌∷◌, ◌++◌, length, refl, sym, ap, ◌∙◌, subst, inl, inr, arith, Option, Some, None, Bool, true, false, cond, zero, suc}
-use Rattle.std.specs.Prelude.{◌&&◌, ◌==◌, nat_lt, not}
+use Rattle.std.proofs.Common.{◌≡◌, ℕ, ◌<◌, ◌≤◌, ◌≢◌, List, [], ◌∷◌, ◌++◌, length, refl, sym, ap, ◌∙◌, subst, inl, inr, arith, Option, Some, None, Bool, true, false, cond}
+use Rattle.std.specs.Prelude.{◌==◌, nat_lt, not}
 use Rattle.std.proofs.lemmas.Bool.{cases_eq, cases_Bool}
-use Rattle.chunk_format.specs.declared.chunk.Chunk.{Chunk}
 use Rattle.chunk_format.specs.Logs.{end_of}
 use Rattle.epoch_coordinator.specs.declared.tail.Tail.{Tail}
 use Rattle.epoch_coordinator.specs.declared.message.Job.{Job}
@@ -12,22 +11,21 @@ use Rattle.epoch_coordinator.specs.declared.message.Message.TheVariants as messa
 use Rattle.epoch_coordinator.specs.declared.message.Sent.{Sent}
 use Rattle.epoch_coordinator.specs.declared.coordinator.Phase.{Phase}
 use Rattle.epoch_coordinator.specs.declared.coordinator.Phase.TheVariants.{Running}
-use Rattle.epoch_coordinator.specs.declared.coordinator.StoppedDid.{StoppedDid}
 use Rattle.epoch_coordinator.specs.declared.coordinator.StoppedDid.TheVariants as did
 use Rattle.epoch_coordinator.specs.Tails.{tail_of}
 use Rattle.epoch_coordinator.specs.Members.{Leading, MemberRole, MemberState, Stopped, Follower, Leader}
 use Rattle.epoch_coordinator.specs.MemberSteps.{Took, mail, asks, asks_by, cut_at, written, is_another, can_open, finished, finished_by, wrote, taken}
-use Rattle.epoch_coordinator.specs.Coordinators.{CoordinatorState, Hears, hears, stopped, stopped_by, told_before, told_in_epoch, tell, open_or_follow}
+use Rattle.epoch_coordinator.specs.Coordinators.{CoordinatorState, Hears, hears, stopped, stopped_by, told_before, told_in_epoch, open_or_follow}
 use Rattle.epoch_coordinator.specs.Scripts.{opened}
-use Rattle.replication_laws.specs.Cluster.{Seat, Letter, ClusterState, seat_in, seat, member, IsMember, durable, last_number, numbered, send, letter_in, marked}
-use Rattle.replication_laws.specs.Events.{took, performed, to_coordinator, heard_by}
-use Rattle.replication_laws.specs.Soundness.{Tree, MessageHolds, IsOfFollower, IsOfLeader, LeaderLine, JobHolds, LineHolds, Sound, acked}
-use Rattle.replication_laws.proofs.Takings.{both_are, eq_is, eq_made}
-use Rattle.settling_laws.specs.Tokens.{OnItsWay, Behind, Exactly, Token, Tells, Is_told, Asks, Gets, Is_shaped, Works, In_step, LeaderToken, Leads, Is_to_open, Running_by, HasTokens, IsStuck}
+use Rattle.replication_laws.specs.Cluster.{Seat, ClusterState, seat_in, seat, member, IsMember, last_number, numbered, letter_in, marked}
+use Rattle.replication_laws.specs.Events.{took, to_coordinator}
+use Rattle.replication_laws.specs.Soundness.{Tree, IsOfFollower, IsOfLeader, JobHolds, LineHolds, Sound, acked}
+use Rattle.replication_laws.proofs.Takings.{eq_is, eq_made}
+use Rattle.settling_laws.specs.Tokens.{OnItsWay, Behind, Exactly, Token, Tells, Is_told, Asks, In_step, LeaderToken, Leads, Is_to_open, HasTokens, IsStuck}
 use Rattle.settling_laws.proofs.Mails.{way_more, way_behind, way_marked, way_sent, IsOf}
-use Rattle.settling_laws.proofs.Known.{leader_leads, follows_leader, leads_alone, stopped_idle}
-use Rattle.settling_laws.proofs.Heard.{either, FairToLeader, OpenerTook, Waits_on, Opens, Cannot, opener_taken, promise_stays}
-use Rattle.settling_laws.proofs.Bringing.{others_on, member_is, member_same, runs_on, took_tokens, fair_to_leader, another_is}
+use Rattle.settling_laws.proofs.Known.{follows_leader, leads_alone, stopped_idle}
+use Rattle.settling_laws.proofs.Heard.{either, FairToLeader, OpenerTook, Waits_on, Opens, Cannot, opener_taken}
+use Rattle.settling_laws.proofs.Bringing.{others_on, member_is, member_same, runs_on, took_tokens, another_is}
 
 -- ---- jobs
 

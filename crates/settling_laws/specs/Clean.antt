@@ -1,5 +1,5 @@
 -- A settle in which no job is answered by a fault and numbers last, and what it leaves.
-use Rattle.std.specs.Prelude.{◌≡◌, ℕ, ◌<◌, ◌⊎◌, true, Bool, List, [], ◌∷◌, length, None}
+use Rattle.std.specs.Prelude.{◌≡◌, ℕ, ◌<◌, true, Bool, List, [], ◌∷◌, length, None}
 use Rattle.chunk_format.specs.Logs.{end_of}
 use Rattle.epoch_coordinator.specs.declared.message.Message.TheVariants as messages
 use Rattle.epoch_coordinator.specs.Members.{Leading, Stopped, Leader, sequence_of}
@@ -7,7 +7,7 @@ use Rattle.epoch_coordinator.specs.MemberSteps.{mail}
 use Rattle.replication_laws.specs.Majorities.{IsMajority, is_voter}
 use Rattle.replication_laws.specs.Cluster.{ClusterState, seat, member, last_number}
 use Rattle.settling_laws.specs.Settling.{Answer, Receipt, Fault, Turn, SettleStep, Perform, Nudge, Follow_up, Deliver, Forget, last_turn}
-use Rattle.settling_laws.specs.Tokens.{OnItsWay, Behind, Running_by}
+use Rattle.settling_laws.specs.Tokens.{OnItsWay, Behind}
 
 abbrev pub IsReceipt : Answer → Type 0
 IsReceipt Receipt = Unit {0}
