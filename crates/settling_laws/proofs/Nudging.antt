@@ -15,7 +15,7 @@ use Rattle.replication_laws.specs.Cluster.{Seat, Reign, Letter, ClusterState, no
 use Rattle.replication_laws.specs.Events.{took, performed, member_nudges, nudges_by, nudges}
 use Rattle.replication_laws.specs.Events as events
 use Rattle.replication_laws.specs.Properties.{SoundWith}
-use Rattle.replication_laws.specs.Soundness.{Tree, IsOfLeader, LeaderLine, LineHolds, Sound}
+use Rattle.replication_laws.specs.Soundness.{Tree, IsOfLeader, LeaderLine, LineHolds, Sound, RoleHolds, IsSound}
 use Rattle.replication_laws.proofs.Properties.{event_with}
 use Rattle.replication_laws.proofs.Snapshots.{truthful_property}
 use Rattle.settling_laws.specs.Settling.{next_job, Receipt, Fault, Jobs, Rest, Turn, bare, turn, SettleStep, Perform, Nudge, Follow_up, Deliver, Forget, last_turn, with_reigns}
@@ -218,3 +218,15 @@ settle_complete o e l now reigns w w' sound order r led turns steps ends runs mo
     go : IsLed w e l → IsLed (with_reigns reigns (bare w)) e l
     go (It_leads d role) = It_leads d role
     go (It_opens role way) = It_opens role way
+
+-- ---- a leader with a job leads
+
+pub works_leads : (o e l : ℕ) (j : Job) (w : ClusterState) → IsSound o w → Running_by w e l → (member w l).job ≡ Some j → IsLed w e l
+works_leads o e l j w s r job = go (member w l).role refl
+  where
+    go : (x : MemberRole) → (member w l).role ≡ x → IsLed w e l
+    go Stopped role = absurd (let z : Some j ≡ None = sym job ∙ stopped_idle s.tree w o e l l s.sound r r.leader_up r.promised role in cc z)
+    go (Follower f) role =
+        absurd (let h : RoleHolds s.tree w l (member w l).promise (Follower f) = subst (RoleHolds s.tree w l (member w l).promise) role (s.sound.each_member l).role in
+        h.1 (sym (follows_leader s.tree w o e l l f s.sound r r.promised role)))
+    go (Leader d) role = It_leads d role

@@ -1,9 +1,10 @@
 //! What a settle brings about.
 
-ghost use Rattle.std.specs.Prelude.{◌≡◌, ◌⊎◌, ◌<◌, ℕ, suc, true, List, [], None, length};
+ghost use Rattle.std.specs.Prelude.{◌≡◌, ◌⊎◌, ◌<◌, ℕ, suc, true, List, [], None, Some, length};
 ghost use Rattle.chunk_format.specs.declared.chunk.Chunk.{Chunk};
 ghost use Rattle.chunk_format.specs.Logs.{Truthful};
-ghost use Rattle.replication_laws.specs.Cluster.{Reign, ClusterState, seat, RunsWith};
+ghost use Rattle.epoch_coordinator.specs.declared.message.Job.{Job};
+ghost use Rattle.replication_laws.specs.Cluster.{Reign, ClusterState, seat, member, RunsWith};
 ghost use Rattle.replication_laws.specs.Confirms.{Awaits};
 ghost use Rattle.replication_laws.specs.Properties.{SoundWith};
 ghost use Rattle.replication_laws.specs.Soundness.{IsSound};
@@ -23,8 +24,9 @@ pub fn a_settle_leaves_nothing()
 /// A settle of a running epoch whose leader leads, also one that writes its first chunk, or is stopped with its Open on
 /// the way; and one that elects an epoch or is to make it durable: where no job is answered by a fault and numbers last,
 /// and where behind it the epoch runs with its open leader, which more than half of the members promised and are up, all
-/// is committed that the leader has. It does nothing.
+/// is committed that the leader has. A leader of the running epoch that has a job leads it. It does nothing.
 pub fn a_settle_completes()
+    ensures working { (opened epoch leader : ℕ) (job : Job) (w : ClusterState) → IsSound opened w → Running_by w epoch leader → (member w leader).job ≡ Some job → IsLed w epoch leader }
     ensures running { (opened now epoch leader : ℕ) (reigns : List Reign) (w w' : ClusterState) → SoundWith Truthful opened (with_reigns reigns w) → IsInOrder w → Running_by w epoch leader → IsLed w epoch leader
         → SettlesCleanly now (turn Jobs w) (turn Rest w') → RunsWith w' epoch leader → HasMost w' epoch → IsComplete w' leader }
     ensures electing { (opened now epoch leader : ℕ) (reigns : List Reign) (w w' : ClusterState) → SoundWith Truthful opened (with_reigns reigns w) → IsInOrder w → Elects_next w epoch
