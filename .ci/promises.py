@@ -55,6 +55,8 @@ def main():
     page = Path(sys.argv[1]) if len(sys.argv) > 1 else TOP / "docs" / "PROMISES.md"
     faults, named = [], set()
     tree = {"%s/%s" % (file.parts[-3], file.stem) for file in TOP.glob("crates/*/must-fail/*.edit")}
+    more = {"%s/%s" % (file.parts[-3], name) for file in TOP.glob("crates/*/must-fail/more.md")
+            for name in re.findall(r"^## (\w+)$", file.read_text(), re.M)}
     specs = "\n".join(file.read_text() for file in TOP.glob("crates/*/specs/**/*.antt"))
     for number, line in enumerate(page.read_text().splitlines(), 1):
         cells = [cell.strip() for cell in line.strip().strip("|").split("|")]
@@ -73,17 +75,17 @@ def main():
                     faults.append("%d: %s: `%s` of %s has no clause `%s`" % (number, promise, path, crate, label))
         row = set(re.findall(r"`(\w+/\w+)`", edits))
         named |= row
-        for edit in sorted(row - tree):
+        for edit in sorted(row - tree - more):
             faults.append("%d: %s: no edit %s in the tree" % (number, promise, edit))
         if state.startswith("whole") and not row:
             faults.append("%d: %s: is whole and names no edit" % (number, promise))
         if state.startswith("whole") and not CALL.findall(calls):
             faults.append("%d: %s: is whole and names no clause" % (number, promise))
-    for edit in sorted(tree - named):
+    for edit in sorted((tree | more) - named):
         faults.append("edit %s is named in no row" % edit)
     for fault in faults:
         print("promises:", fault)
-    print("promises: %d edits, %d faults" % (len(tree), len(faults)))
+    print("promises: %d edits, %d more, %d faults" % (len(tree), len(more), len(faults)))
     return 1 if faults else 0
 
 

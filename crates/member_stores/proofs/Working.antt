@@ -1,8 +1,9 @@
 -- A store is given a job.
-use Rattle.std.proofs.Common.{◌≡◌, ℕ, List, Bool, true, false, Option, Some, Result, Ok, Err, OnOk, IfSome, refl, sym, ap, ◌∙◌, subst}
+use Rattle.std.proofs.Common.{◌≡◌, inl, inr, ℕ, List, Bool, true, false, Option, Some, None, Result, Ok, Err, OnOk, IfSome, refl, sym, ap, ◌∙◌, subst}
 use Rattle.disk_calls.specs.Disk.{DiskState}
 use Rattle.disk_calls.specs.Frames.{OtherStreams}
 use Rattle.chunk_format.specs.declared.chunk.Chunk.{Chunk}
+use Rattle.epoch_coordinator.specs.declared.message.Job.{Job}
 use Rattle.segment_store.specs.Receipts.{JobDone}
 use Rattle.segment_store.specs.Stores.{StoreInHand, BackedStore, EndsRise, SameKeeper}
 use Rattle.segment_store.proofs.Lasting.{backed_rise}
@@ -10,7 +11,7 @@ use Rattle.segment_store.specs.declared.fault.StoreFault.TheVariants as faults
 use Rattle.member_stores.specs.declared.fault.WorkFault.{WorkFault}
 use Rattle.member_stores.specs.declared.fault.WorkFault.TheVariants.{NoStore, Apart, Store}
 use Rattle.member_stores.specs.declared.shelf.Shelf.{Shelf}
-use Rattle.member_stores.specs.Works.{Asked, receipt_of, IsUndone, Suits, Works, ShelfGives, UnlessBroken, JobStands}
+use Rattle.member_stores.specs.Works.{Asked, asked, receipt_of, IsUndone, IsToDo, Suits, Works, HandsOut, ShelfGives, UnlessBroken, JobStands}
 
 pub clash : (b : Bool) → b ≡ true → b ≡ false → ⊥
 clash true t f = cc f

@@ -14,12 +14,16 @@ pub const PEER_ENDED: i64 = -3;
 pub const CLOSED_BY_PEER: i64 = -4;
 /// The peer was silent.
 pub const SILENT: i64 = -5;
-/// A way to end that no call of these tests has.
+/// More than a number of these tests can tell.
 pub const OTHER: i64 = -6;
 /// There is no stream of the name.
 pub const MISSING: i64 = -7;
 /// No epoch runs on the stream.
 pub const CLOSED: i64 = -8;
+/// A receive failed.
+pub const READ_FAULT: i64 = -9;
+/// A send failed.
+pub const WRITE_FAULT: i64 = -10;
 /// The server closed the connection; to it the code is added.
 pub const CLOSED_BY_US: i64 = 1_000_000;
 
@@ -43,6 +47,7 @@ pub(crate) fn of_end(how: Option<SessionEnd>) -> i64 {
         Some(SessionEnd::ClosedByUs(code)) => CLOSED_BY_US.saturating_add(i64::from(code)),
         Some(SessionEnd::Silent) => SILENT,
         Some(SessionEnd::Memory) => MEMORY,
-        Some(_) => OTHER,
+        Some(SessionEnd::ReadFault) => READ_FAULT,
+        Some(SessionEnd::WriteFault) => WRITE_FAULT,
     }
 }

@@ -1,5 +1,5 @@
-//! Tests of a session: dialogues over a hub in memory, frame for frame and byte by byte. Frames are made from the protocol's
-//! layouts.
+//! Tests of a session: dialogues over a hub in memory, frame for frame and byte by byte, and links that are served. Frames are made
+//! from the protocol's layouts.
 #![tactic(auto)]
 
 #[cfg(test)]
@@ -10,6 +10,8 @@ mod consumer_tables;
 mod frames;
 #[cfg(test)]
 mod opening_tables;
+#[cfg(test)]
+mod over_links;
 #[cfg(test)]
 mod over_memory;
 #[cfg(test)]

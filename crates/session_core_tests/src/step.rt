@@ -24,7 +24,7 @@ pub enum Step {
 }
 
 /// The bytes of hexadecimal text, or none where it is no such text, or memory ran out.
-fn bytes_of(alloc: Global, text: &str) -> Vec<u8> {
+pub(crate) fn bytes_of(alloc: Global, text: &str) -> Vec<u8> {
     match hex::decode(alloc, text.as_bytes()) {
         Ok(bytes) => bytes,
         Err(_) => Vec::new(alloc),

@@ -18,7 +18,7 @@ pub struct Talk {
     pub now: u64,
 }
 
-fn text(alloc: Global, bytes: &[u8]) -> Result<Text, AllocError> {
+pub(crate) fn text(alloc: Global, bytes: &[u8]) -> Result<Text, AllocError> {
     match Text::copy(alloc, bytes) {
         Ok(text) => Ok(text),
         Err(_) => Err(AllocError),

@@ -3,7 +3,6 @@ use Rattle.std.proofs.Common.{◌≡◌, ℕ, ◌+◌, ◌-◌, ◌<◌, ◌≤�
 use Rattle.std.specs.Prelude.{◌&&◌, ◌==◌, ◌≢◌, not, nat_lt, is_some, slice_index_or, slice_set}
 use Rattle.std.specs.List.{AllByRecursion}
 use Rattle.std.proofs.lemmas.Bool.{cases_eq}
-use Rattle.std.proofs.lemmas.List.{get_or-set_same, get_or-set_other, length-set}
 use Rattle.epoch_coordinator.specs.declared.message.Job.{Job}
 use Rattle.epoch_coordinator.specs.declared.message.Job.TheVariants.{Write, Cut, Promise, Epoch}
 use Rattle.epoch_coordinator.specs.declared.message.Message.{Message}
@@ -13,17 +12,15 @@ use Rattle.chunk_format.specs.declared.chunk.Chunk.{Chunk}
 use Rattle.epoch_coordinator.specs.Members.{MemberRole, MemberState, Stopped, Follower, Leader, role_chunks}
 use Rattle.epoch_coordinator.specs.MemberSteps.{Took, taken, finished, finished_by, asks_by, written, behind_first}
 use Rattle.epoch_coordinator.specs.MemberSteps as steps
-use Rattle.epoch_coordinator.specs.Coordinators.{Hears, stopped, begun, stop_all}
-use Rattle.epoch_coordinator.specs.declared.coordinator.StoppedDid.{StoppedDid}
-use Rattle.epoch_coordinator.specs.Scripts.{opened}
-use Rattle.replication_laws.specs.Cluster.{Seat, Letter, Reign, ClusterState, nobody, seat, member, IsMember, placed, put, last_number, numbered, send, letter_in, marked}
-use Rattle.replication_laws.specs.Events.{IsUp, to_coordinator, comes, begins, performed, goes_down, nudges}
+use Rattle.epoch_coordinator.specs.Coordinators.{begun, stop_all}
+use Rattle.replication_laws.specs.Cluster.{Seat, Letter, Reign, ClusterState, nobody, seat, member, put, last_number, numbered, send, letter_in, marked}
+use Rattle.replication_laws.specs.Events.{to_coordinator, comes, begins, performed, goes_down, nudges}
 use Rattle.replication_laws.specs.Soundness.{JobHolds, IsSound}
 use Rattle.replication_laws.proofs.Sounds.{seat_else, count_put}
 use Rattle.replication_laws.proofs.Joined.{event_sound}
 use Rattle.settling_laws.specs.Settling.{is_up, is_due, due_in, next_job, next_letter, Answer, Receipt, Fault, answered, Stage, Jobs, Letters, Rest, Turn, bare, turn, SettleStep, Perform, Nudge, Follow_up, Deliver, Forget, with_reigns}
 use Rattle.settling_laws.specs.Measures.{Rising, IsInOrder, IsPast, jobs_by, seat_jobs, all_jobs, jobs_left}
-use Rattle.settling_laws.proofs.Nexts.{JobOf, Of_coordinator, Of_member, job_of, job_is_up, up_is, is_up_by, DueIs, due_is, true_lt, same_number, other_number, rising_last}
+use Rattle.settling_laws.proofs.Nexts.{JobOf, Of_coordinator, Of_member, job_of, job_is_up, is_up_by, DueIs, due_is, same_number, other_number}
 use Rattle.settling_laws.proofs.Ordered.{rising_numbered}
 use Rattle.settling_laws.proofs.Evented.{step_event, step_order}
 
@@ -74,7 +71,7 @@ own_job o w k s j e = go j (subst (JobHolds s.tree w k (member w k).promise (mem
     go (Promise epoch) h = tt
     go (Epoch epoch) h = h
 
-is_job : (o : Option Job) → is_some o ≡ true → (j : Job) × (o ≡ Some j)
+pub is_job : (o : Option Job) → is_some o ≡ true → (j : Job) × (o ≡ Some j)
 is_job None h = absurd (cc h)
 is_job (Some j) h = (j, refl)
 
@@ -351,7 +348,7 @@ nearer o now n t x r step = go step (at_step o now t x r.at step)
         (next_past t.cluster n number r.past next) (let y = d.reached in let z = r.at.order.fits in omega (arith, y, z))
     go (Forget l none next e) h = The_rest (stage_is Rest (record t.cluster { mail = []; last = 0 }) e)
 
-at_rest : (now : ℕ) (t x : Turn) → t.stage ≡ Rest → SettleStep now t x → ⊥
+pub at_rest : (now : ℕ) (t x : Turn) → t.stage ≡ Rest → SettleStep now t x → ⊥
 at_rest now t x r (Perform k a s next e) = cc (r, s)
 at_rest now t x r (Nudge s next e) = cc (r, s)
 at_rest now t x r (Follow_up k a s next e) = cc (r, s)

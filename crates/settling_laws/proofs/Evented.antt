@@ -1,5 +1,5 @@
 -- A settle is a list of events.
-use Rattle.std.proofs.Common.{◌≡◌, ℕ, ◌+◌, List, [], ◌∷◌, ◌++◌, length, refl, sym, ap, ◌∙◌, subst, arith, Option, Some, None, Bool, true, false, zero, suc, append_assoc}
+use Rattle.std.proofs.Common.{◌≡◌, ℕ, List, [], ◌∷◌, ◌++◌, refl, sym, ap, ◌∙◌, subst, Option, Some, None, zero, suc, append_assoc}
 use Rattle.chunk_format.specs.declared.chunk.Chunk.{Chunk}
 use Rattle.chunk_format.specs.Logs.{GoesOn}
 use Rattle.chunk_format.proofs.BeginLaws.{goes_on, goes_same}
@@ -9,13 +9,13 @@ use Rattle.epoch_coordinator.specs.declared.coordinator.StoppedDid.{StoppedDid}
 use Rattle.epoch_coordinator.specs.declared.coordinator.StoppedDid.TheVariants as did
 use Rattle.epoch_coordinator.specs.Coordinators.{CoordinatorState, Hears, stopped}
 use Rattle.epoch_coordinator.specs.declared.message.Sent.{Sent}
-use Rattle.replication_laws.specs.Cluster.{Reign, ClusterState, letter_in, marked, send}
+use Rattle.replication_laws.specs.Cluster.{Reign, ClusterState, marked, send}
 use Rattle.replication_laws.specs.Events.{IsUp, IsFree, reigns_after, heard_by, to_coordinator, comes, begins, performed, goes_down, nudges, ClusterStep, AnyStep, Happens, Steps}
 use Rattle.replication_laws.specs.Events as events
 use Rattle.replication_laws.specs.Soundness.{Kept, IsSound, StaysKept}
 use Rattle.replication_laws.proofs.Commits.{kept_order}
 use Rattle.replication_laws.proofs.Joined.{step_sound, step_kept, step_grows}
-use Rattle.settling_laws.specs.Settling.{Answer, Receipt, Fault, answered, Stage, Jobs, Letters, Rest, Turn, bare, turn, SettleStep, Perform, Nudge, Follow_up, Deliver, Forget, Stepping, last_turn, Settling, with_reigns, IsEvent, is_up, next_job, next_letter}
+use Rattle.settling_laws.specs.Settling.{Answer, Receipt, Fault, answered, Stage, Turn, bare, turn, SettleStep, Perform, Nudge, Follow_up, Deliver, Forget, Stepping, last_turn, Settling, with_reigns, IsEvent, is_up}
 use Rattle.settling_laws.specs.Measures.{IsInOrder, RunsTo, last_state}
 use Rattle.settling_laws.proofs.Nexts.{job_is_up, up_is, free_is, due_is}
 use Rattle.settling_laws.proofs.Ordered.{event_in_order}
@@ -45,7 +45,7 @@ to_apart reigns (messages.Shape epoch runs) w = ([], refl)
 to_apart reigns (messages.Ask epoch from tail) w = ([], refl)
 to_apart reigns (messages.Append epoch previous chunk) w = ([], refl)
 
-comes_apart : (reigns : List Reign) (now k : ℕ) (message : Message) (w : ClusterState) → Apart reigns (comes now k message (with_reigns reigns w)) (comes now k message w)
+pub comes_apart : (reigns : List Reign) (now k : ℕ) (message : Message) (w : ClusterState) → Apart reigns (comes now k message (with_reigns reigns w)) (comes now k message w)
 comes_apart reigns now zero message w = to_apart reigns message w
 comes_apart reigns now (suc i) message w = ([], refl)
 
@@ -53,7 +53,7 @@ begins_apart : (reigns : List Reign) (job : Option ℕ) (w : ClusterState) → b
 begins_apart reigns None w = refl
 begins_apart reigns (Some epoch) w = refl
 
-performed_apart : (reigns : List Reign) (k : ℕ) (w : ClusterState) → performed k (with_reigns reigns w) ≡ with_reigns reigns (bare (performed k w))
+pub performed_apart : (reigns : List Reign) (k : ℕ) (w : ClusterState) → performed k (with_reigns reigns w) ≡ with_reigns reigns (bare (performed k w))
 performed_apart reigns zero w = begins_apart reigns w.coordinator.job w
 performed_apart reigns (suc i) w = refl
 
@@ -65,7 +65,7 @@ up_with : (reigns : List Reign) (w : ClusterState) (k : ℕ) → IsUp w k → Is
 up_with reigns w zero u = u
 up_with reigns w (suc i) u = u
 
-free_with : (reigns : List Reign) (w : ClusterState) (k : ℕ) → IsFree w k → IsFree (with_reigns reigns w) k
+pub free_with : (reigns : List Reign) (w : ClusterState) (k : ℕ) → IsFree w k → IsFree (with_reigns reigns w) k
 free_with reigns w zero u = u
 free_with reigns w (suc i) u = u
 

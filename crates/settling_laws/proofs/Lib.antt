@@ -3,3 +3,17 @@ pub mod Nexts
 pub mod Ordered
 pub mod Evented
 pub mod Ending
+pub mod Mails
+pub mod Known
+pub mod Heard
+pub mod Bringing
+pub mod Leading
+pub mod Working
+pub mod Resting
+pub mod Completing
+pub mod Nudging
+pub mod Refused
+pub mod Electing
+pub mod Voting
+pub mod Calling
+pub mod Opening

@@ -1,10 +1,10 @@
 -- What the next job and the next message are.
-use Rattle.std.proofs.Common.{◌≡◌, ℕ, ◌+◌, ◌<◌, ◌≤◌, List, [], ◌∷◌, length, refl, sym, ap, ◌∙◌, subst, inl, inr, arith, Option, Some, None, Bool, true, false, cond, zero, suc}
+use Rattle.std.proofs.Common.{◌≡◌, ℕ, ◌+◌, ◌<◌, ◌≤◌, List, [], ◌∷◌, length, refl, sym, subst, arith, Option, Some, None, Bool, true, false, cond, zero, suc}
 use Rattle.std.specs.Prelude.{◌&&◌, ◌==◌, not, nat_lt, is_some, slice_index_or}
 use Rattle.epoch_coordinator.specs.declared.message.Sent.{Sent}
 use Rattle.replication_laws.specs.Cluster.{Seat, Letter, ClusterState, nobody, seat, member, letter_in}
 use Rattle.replication_laws.specs.Events.{IsUp, IsFree}
-use Rattle.settling_laws.specs.Settling.{is_up, is_busy, job_from, next_job, is_due, due_in, next_letter}
+use Rattle.settling_laws.specs.Settling.{is_up, is_busy, job_from, next_job, is_due, due_in}
 use Rattle.settling_laws.specs.Measures.{Rising}
 
 pub both : (a b : Bool) → (a && b) ≡ true → (a ≡ true) × (b ≡ true)

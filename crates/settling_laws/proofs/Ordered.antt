@@ -1,11 +1,11 @@
 -- Messages stay in the order of their numbers.
-use Rattle.std.proofs.Common.{◌≡◌, ℕ, ◌+◌, ◌<◌, ◌≤◌, List, [], ◌∷◌, ◌++◌, length, refl, sym, ap, ◌∙◌, subst, arith, Option, Some, None, Bool, true, false, cond, zero, suc}
+use Rattle.std.proofs.Common.{◌≡◌, ℕ, ◌+◌, ◌≤◌, List, [], ◌∷◌, ◌++◌, length, refl, sym, subst, arith, Option, Some, None, Bool, true, false, cond, zero, suc}
 use Rattle.std.specs.Prelude.{◌==◌, nat_lt}
 use Rattle.epoch_coordinator.specs.declared.message.Message.{Message}
 use Rattle.epoch_coordinator.specs.declared.message.Message.TheVariants as messages
 use Rattle.epoch_coordinator.specs.declared.message.Sent.{Sent}
 use Rattle.replication_laws.specs.Cluster.{Letter, ClusterState, last_number, numbered, send, marked, without}
-use Rattle.replication_laws.specs.Events.{comes, to_coordinator, performed, begins, goes_down, comes_up, reopens, gets, ClusterStep, Elect, Deliver, Lose, Forget, Nudge, Done, Stop, Restart, Reopen, OfferStep, Offer, StoreOffset, AnyStep, Happens, Takes}
+use Rattle.replication_laws.specs.Events.{comes, to_coordinator, performed, begins, goes_down, ClusterStep, Elect, Deliver, Lose, Forget, Nudge, Done, Stop, Restart, Reopen, OfferStep, Offer, StoreOffset, AnyStep, Happens, Takes}
 use Rattle.settling_laws.specs.Measures.{Rising, IsInOrder}
 
 pub rising_numbered : (low : ℕ) (sent : List Sent) → Rising low (numbered low sent) (low + length (numbered low sent))

@@ -1,5 +1,5 @@
 -- Steps of a settle, one behind the other.
-use Rattle.std.proofs.Common.{◌≡◌, ℕ, List, [], ◌∷◌, ◌++◌, refl, sym, ap, ◌∙◌, subst}
+use Rattle.std.proofs.Common.{◌≡◌, ℕ, List, [], ◌∷◌, ◌++◌, refl, sym, subst}
 use Rattle.settling_laws.specs.Settling.{Turn, SettleStep, Stepping, last_turn, Settling}
 
 pub none_yet : (now : ℕ) (t : Turn) → Settling now t t

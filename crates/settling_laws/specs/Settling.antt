@@ -1,5 +1,5 @@
 -- How a stream comes to rest, one step after the other.
-use Rattle.std.specs.Prelude.{◌≡◌, ℕ, zero, suc, ◌+◌, Bool, true, false, not, ◌&&◌, if◌then◌else◌, nat_lt, is_some, List, [], ◌∷◌, ◌++◌, length, Option, Some, None}
+use Rattle.std.specs.Prelude.{◌≡◌, ℕ, zero, suc, ◌+◌, Bool, not, ◌&&◌, if◌then◌else◌, nat_lt, is_some, List, [], ◌∷◌, ◌++◌, length, Option, Some, None}
 use Rattle.epoch_coordinator.specs.declared.message.Sent.{Sent}
 use Rattle.replication_laws.specs.Cluster.{Seat, Letter, Reign, ClusterState, seat, letter_in, marked, send}
 use Rattle.replication_laws.specs.Events.{comes, performed, goes_down, nudges, ClusterStep}

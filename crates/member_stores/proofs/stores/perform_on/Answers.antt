@@ -1,3 +1,4 @@
+use Rattle.chunk_format.specs.declared.chunk.Chunk.{Chunk}
 use Rattle.segment_store.specs.Stores.{BackedStore}
 use Rattle.member_stores.specs.declared.shelf.Shelf.{Shelf}
 use Rattle.member_stores.specs.Works.{IsUndone, JobLeft, Suits, asked}

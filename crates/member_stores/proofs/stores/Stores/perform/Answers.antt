@@ -1,5 +1,6 @@
 use Rattle.std.proofs.Common.{◌<◌, length, sym, ◌∙◌, arith}
 use Rattle.member_stores.specs.declared.shelf.Shelf.{Shelf}
+use Rattle.member_stores.specs.Shelves.{shelf_of}
 use Rattle.member_stores.specs.Works.{JobStands}
 use Rattle.member_stores.proofs.Placing.{at_place, own}
 use Rattle.member_stores.proofs.Working.{on_new}

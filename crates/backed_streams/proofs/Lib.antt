@@ -1,0 +1,10 @@
+mod OneDisk
+mod Doings
+mod Widening
+mod Disks
+mod Happening
+mod DoneJobs
+mod Returns
+mod Opened
+mod Lasting
+mod Refusing

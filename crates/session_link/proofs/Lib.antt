@@ -1,0 +1,3 @@
+pub mod Sendings
+pub mod Gathers
+pub mod Runs
