@@ -1,16 +1,16 @@
 -- A settle comes from one stream to the next by its steps.
-use Rattle.std.proofs.Common.{◌≡◌, ◌≢◌, ◌⊎◌, inl, inr, ℕ, zero, suc, ◌≤◌, List, [], ◌∷◌, ◌++◌, length, Option, Some, None, refl, sym, ap, ◌∙◌, subst}
+use Rattle.std.proofs.Common.{◌≡◌, ◌≢◌, ◌⊎◌, inl, inr, ℕ, zero, suc, List, [], ◌∷◌, ◌++◌, length, Option, Some, None, refl, sym, ap, ◌∙◌, subst}
 use Rattle.epoch_coordinator.specs.declared.message.Message.{Message}
 use Rattle.epoch_coordinator.specs.declared.message.Message.TheVariants as messages
 use Rattle.epoch_coordinator.specs.declared.message.Sent.{Sent}
-use Rattle.replication_laws.specs.Cluster.{ClusterState, letter_in, marked, send}
-use Rattle.replication_laws.specs.Events.{to_coordinator, comes, begins, performed, goes_down, nudges}
+use Rattle.replication_laws.specs.Cluster.{ClusterState, letter_in, marked}
+use Rattle.replication_laws.specs.Events.{to_coordinator, comes, begins, performed, goes_down}
 use Rattle.replication_laws.proofs.Sounds.{count_put}
-use Rattle.settling_laws.specs.Settling.{Answer, Receipt, Fault, answered, Stage, Jobs, Letters, Rest, Turn, bare, turn, SettleStep, Perform, Nudge, Follow_up, Deliver, Forget, Settling, next_job, next_letter}
+use Rattle.settling_laws.specs.Settling.{Answer, Receipt, Fault, answered, Stage, Jobs, Letters, Rest, Turn, bare, turn, SettleStep, Perform, Nudge, Follow_up, Deliver, Forget, next_job, next_letter}
 use Rattle.settling_laws.proofs.Stepping.{none_yet, and_then}
 use Rattle.segment_store.specs.Receipts.{JobDone}
 use Rattle.cluster_core.specs.declared.outcome.Outcome.{Outcome}
-use Rattle.cluster_core.specs.declared.outcome.Outcome.TheVariants.{Did, Nothing}
+use Rattle.cluster_core.specs.declared.outcome.Outcome.TheVariants.{Did}
 use Rattle.cluster_core.specs.States.{ReplicaState, IfDid, reigned, deliver_by}
 use Rattle.cluster_core.specs.Kept.{delivered_by}
 use Rattle.stream_cluster.specs.declared.event.Event.{Event}
@@ -88,12 +88,14 @@ IsUnderWay Letters = Unit {0}
 IsUnderWay Rest = ⊥
 
 step_job : (now : ℕ) (stage : Stage) (a : Answer) (k : ℕ) (w w' : ClusterState) → IsUnderWay stage → next_job w ≡ Some k → w' ≡ reigned [] (answered a k w) → SettleStep now (turn stage w) (turn stage w')
+unfolding at_stage
 step_job now Jobs a k w w' under due is = Perform k a refl due (ap (turn Jobs) is ∙ ap (at_stage Jobs) (sym (bare_answered a k w)))
 step_job now Letters a k w w' under due is = Follow_up k a refl due (ap (turn Letters) is ∙ ap (at_stage Letters) (sym (bare_answered a k w)))
 step_job now Rest a k w w' under due is = absurd under
 
 step_letter : (now number : ℕ) (o : Option Sent) (w w' : ClusterState) → next_job w ≡ None → next_letter w ≡ Some number → letter_in number w.mail ≡ o → deliver_by o w ≡ Did
     → w' ≡ reigned [] (delivered_by o number now w) → SettleStep now (turn Letters w) (turn Letters w')
+unfolding at_stage
 step_letter now number None w w' none next at due is = absurd (cc due)
 step_letter now number (Some s) w w' none next at due is =
     Deliver number s refl none next at (ap (turn Letters) is ∙ ap (at_stage Letters) (sym (bare_comes now s.to s.message (record w { mail = marked number w.mail }))))
@@ -229,3 +231,16 @@ advances_then now a b c first second = record { before = leads_then now Jobs Job
 -- a settle so far
 pub came : (now : ℕ) (to : Stage) (a b : ServedState) → Leads now Jobs to a b → Progress now to a b
 came now to a b leads = leads.on a (begins_here now a)
+
+-- the jobs, the nudge and the messages
+pub so_far : (now : ℕ) (a b c d : ServedState) → Advances now a b → Leads now Jobs Letters b c → Leads now Letters Letters c d → Progress now Letters a d
+so_far now a b c d jobs one letters = came now Letters a d (leads_then now Jobs Letters Letters a c d (leads_then now Jobs Jobs Letters a b c jobs.before one) letters)
+
+-- and all to its end
+pub to_the_end : (now : ℕ) (a d e : ServedState) → Progress now Letters a d → Leads now Letters Rest d e → Progress now Rest a e
+to_the_end now a d e far last = last.on a far
+
+-- whether it came to its end or not
+pub however : (now : ℕ) (result : Settled) (a d e : ServedState) → Progress now Letters a d → (result ≡ settled.Did → Leads now Letters Rest d e) → (result ≡ settled.Memory → e ≡ d) → (stage : Stage) × Progress now stage a e
+however now settled.Did a d e far did same = (Rest, to_the_end now a d e far (did refl))
+however now settled.Memory a d e far did same = (Letters, stays now Letters a d e (same refl) far)

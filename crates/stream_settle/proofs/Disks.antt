@@ -1,5 +1,5 @@
 -- The disks of a stream, of which one changes.
-use Rattle.std.proofs.Common.{◌≡◌, ◌≢◌, ◌⊎◌, inl, inr, ℕ, zero, suc, ◌≤◌, ◌<◌, List, [], ◌∷◌, length, Option, Some, None, Bool, true, false, slice_set, slice_index_or, refl, sym, ap, ◌∙◌, subst, arith, length-set}
+use Rattle.std.proofs.Common.{◌≡◌, ◌≢◌, ◌⊎◌, inl, inr, ℕ, zero, suc, ◌≤◌, ◌<◌, List, [], ◌∷◌, length, Option, slice_set, slice_index_or, refl, sym, ap, ◌∙◌, subst, arith, length-set}
 use Rattle.std.proofs.lemmas.List.{get_or-set_same, get_or-set_other}
 use Rattle.disk_calls.specs.Disk.{DiskState}
 use Rattle.disk_calls.specs.Frames.{Besides, OtherStreams}
@@ -155,3 +155,7 @@ goes_as tells state Way Other s t a b as_is goes = record { way = as_is goes.way
 pub goes_on : {D : Type 0} (tells : Type 0) (state : D → DiskState) (Way : ServedState → ServedState → Type 0) → ((p q r : ServedState) → Way p q → Way q r → Way p r)
     → (s t u : ServedState) (a b : Around D) → Goes tells state Way s t a b → Way t u → SameStream t u → Goes tells state Way s u a b
 goes_on tells state Way join s t u a b goes way same = record { way = join s t u goes.way way; same = same_then s t u goes.same same; disks = goes.disks; in_hand = goes.in_hand }
+
+-- disks that go on, behind others
+pub disks_join : {D : Type 0} (state : D → DiskState) (n m : ℕ) (a b c : Around D) → m ≡ n → DisksGo state n a b → DisksGo state m b c → DisksGo state n a c
+disks_join state n m a b c e first second = go_then state n a b c first (subst (λ (k : ℕ). DisksGo state k b c) e second)

@@ -1,17 +1,18 @@
 -- How a stream settles over its disks.
-use Rattle.std.specs.Prelude.{◌≡◌, ℕ, suc, ◌<◌, ◌≤◌, Bool, true, false, List, [], ◌∷◌, length, Option, None, slice_index_or}
+use Rattle.std.specs.Prelude.{◌≡◌, ℕ, suc, ◌<◌, ◌≤◌, Bool, true, false, ◌&&◌, List, [], ◌∷◌, length, Option, None, is_some, slice_index_or}
 use Rattle.disk_calls.specs.Disk.{DiskState}
 use Rattle.disk_calls.specs.Frames.{Besides, OtherStreams}
 use Rattle.gated_words.specs.InHand.{InHand}
 use Rattle.gated_words.specs.Files.{second_file}
 use Rattle.gated_words.specs.Backing.{Backs}
 use Rattle.segment_store.specs.declared.fault.StoreFault.TheVariants as faults
-use Rattle.replication_laws.specs.Cluster.{ClusterState}
-use Rattle.settling_laws.specs.Settling.{Stage, Jobs, Letters, Rest, turn, Settling, next_job}
+use Rattle.replication_laws.specs.Cluster.{ClusterState, member}
+use Rattle.settling_laws.specs.Settling.{Stage, Jobs, Letters, turn, Settling, next_job}
 use Rattle.member_stores.specs.declared.fault.WorkFault.{WorkFault}
 use Rattle.member_stores.specs.declared.fault.WorkFault.TheVariants.{NoStore, Apart, Store}
 use Rattle.member_stores.specs.declared.shelf.Shelf.{Shelf}
 use Rattle.member_stores.specs.Shelves.{shelf_of, BackedShelf}
+use Rattle.stream_cluster.specs.Leads.{is_member_up}
 use Rattle.stream_cluster.specs.Served.{ServedState, Moves}
 use Rattle.stream_settle.specs.declared.settled.Settled.{Settled}
 use Rattle.stream_settle.specs.declared.settled.Settled.TheVariants as settled
@@ -63,6 +64,10 @@ pub record IsAtRest (w : ClusterState) : Type 0 where
   pub jobs : next_job w ≡ None
   pub mail : w.mail ≡ []
   pub last : w.last ≡ 0
+
+-- a member is there and up and has a job
+abbrev pub is_busy_at : ℕ → ClusterState → Bool
+is_busy_at k w = is_member_up w k && is_some (member w k).job
 
 -- ---- its disks, the coordinator's first, and what is in hand of them
 

@@ -38,14 +38,14 @@ fn receipt_of(event: Event) -> Option<Receipt>
 {
     match event {
         Event::Elect => None,
-        Event::Deliver(_) => None,
-        Event::Lose(_) => None,
+        Event::Deliver(_number) => None,
+        Event::Lose(_number) => None,
         Event::Forget => None,
         Event::Nudge => None,
         Event::Done(receipt) => Some(receipt),
-        Event::Stop { member: _ } => None,
-        Event::Restart(_) => None,
-        Event::Reopen { epoch: _ } => None,
+        Event::Stop { member: _member } => None,
+        Event::Restart(_recovered) => None,
+        Event::Reopen { epoch: _epoch } => None,
     }
 }
 

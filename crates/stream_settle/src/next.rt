@@ -3,19 +3,33 @@
 ghost use Rattle.std.specs.Prelude.{◌≡◌, ◌≤◌, length};
 ghost use Rattle.settling_laws.specs.Settling.{is_due, job_from, next_job, next_letter};
 ghost use Rattle.cluster_core.specs.Parts.{letter_of};
+ghost use Rattle.stream_settle.specs.Settles.{is_busy_at};
 
 use cluster_core::Numbered;
 use stream_cluster::Cluster;
+
+/// Whether a member is up and has a job.
+#[tactic(auto, using(crate::proofs::Nexts::not_busy, crate::proofs::Nexts::busy))]
+fn is_busy(cluster: &Cluster, member: u8) -> bool
+    ensures { result ≡ is_busy_at member cluster.now.state.cluster }
+{
+    match cluster.job(member) {
+        None => false,
+        Some(_) => true,
+    }
+}
 
 /// The first of the members, counted from 1, that is up and has a job.
 fn first_busy(cluster: &Cluster) -> Option<u8>
     requires { length cluster.now.state.cluster.seats ≤ 7 }
     ensures { result ≡ job_from 1 cluster.now.state.cluster.seats }
 {
-    for member in 1..8 {
-        if cluster.job(member).is_some() {
-            return Some(member);
+    let mut place = 0;
+    'members: while place < 7 {
+        if is_busy(cluster, place + 1) {
+            return Some(place + 1);
         }
+        place += 1;
     }
     None
 }
@@ -45,10 +59,12 @@ fn is_due(cluster: &Cluster, letter: &Numbered) -> bool
 pub(crate) fn next_letter(cluster: &Cluster) -> Option<u64>
     ensures { result ≡ next_letter cluster.now.state.cluster }
 {
-    for letter in cluster.messages() {
+    let mut left = cluster.messages();
+    'letters: while let Some((letter, more)) = left.split_first() {
         if is_due(cluster, letter) {
             return Some(letter.number);
         }
+        left = more;
     }
     None
 }

@@ -1,6 +1,6 @@
 //! A stream comes to rest, step by step.
 
-ghost use Rattle.std.specs.Prelude.{◌≡◌, ◌×◌, None, Some};
+ghost use Rattle.std.specs.Prelude.{◌≡◌, None, Some};
 ghost use Rattle.settling_laws.specs.Settling.{Jobs, Letters, Rest, Stage, Settles, next_job, next_letter};
 ghost use Rattle.stream_settle.specs.Settles.{Advances, Goes, IsAtRest, Leads, Progress, Ready, SameStream, DisksGo, AllInHand, around};
 

@@ -13,3 +13,6 @@ follow_next-turned-requires g c = ready_then g.D.Disk.tells g.D.Disk.state (Lead
 
 pub turns-preserved : goal.turns-preserved
 turns-preserved g c = goes_then g.D.Disk.tells g.D.Disk.state (Leads c.args.now Letters Letters) (leads_then c.args.now Letters Letters Letters) c.args.cluster.now c.turns.cluster c.follow_next-turned.new.cluster (around c.args.disks.now c.args.epochs.now c.args.stores.now) (around c.turns.disks c.turns.epochs c.turns.stores) (around c.follow_next-turned.new.disks c.follow_next-turned.new.epochs c.follow_next-turned.new.stores) c.turns.invariant c.follow_next-turned.ensures.goes
+
+pub returns-in-Some-clause-goes : goal.returns-in-Some-clause-goes
+returns-in-Some-clause-goes g c = goes_then g.D.Disk.tells g.D.Disk.state (Leads c.args.now Letters Letters) (leads_then c.args.now Letters Letters Letters) c.args.cluster.now c.turns.cluster c.follow_next-turned.new.cluster (around c.args.disks.now c.args.epochs.now c.args.stores.now) (around c.turns.disks c.turns.epochs c.turns.stores) (around c.follow_next-turned.new.disks c.follow_next-turned.new.epochs c.follow_next-turned.new.stores) c.turns.invariant c.follow_next-turned.ensures.goes

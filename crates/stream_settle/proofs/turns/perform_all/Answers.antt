@@ -12,3 +12,6 @@ perform_next-turned-requires g c = ready_then g.D.Disk.tells g.D.Disk.state (Adv
 
 pub turns-preserved : goal.turns-preserved
 turns-preserved g c = goes_then g.D.Disk.tells g.D.Disk.state (Advances c.args.now) (advances_then c.args.now) c.args.cluster.now c.turns.cluster c.perform_next-turned.new.cluster (around c.args.disks.now c.args.epochs.now c.args.stores.now) (around c.turns.disks c.turns.epochs c.turns.stores) (around c.perform_next-turned.new.disks c.perform_next-turned.new.epochs c.perform_next-turned.new.stores) c.turns.invariant c.perform_next-turned.ensures.goes
+
+pub returns-in-Some-clause-goes : goal.returns-in-Some-clause-goes
+returns-in-Some-clause-goes g c = goes_then g.D.Disk.tells g.D.Disk.state (Advances c.args.now) (advances_then c.args.now) c.args.cluster.now c.turns.cluster c.perform_next-turned.new.cluster (around c.args.disks.now c.args.epochs.now c.args.stores.now) (around c.turns.disks c.turns.epochs c.turns.stores) (around c.perform_next-turned.new.disks c.perform_next-turned.new.epochs c.perform_next-turned.new.stores) c.turns.invariant c.perform_next-turned.ensures.goes
